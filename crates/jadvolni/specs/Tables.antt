@@ -1,10 +1,11 @@
 -- What reading a table does: what is answered, and what the arrays of its columns then have.
-use Rattle.std.specs.Prelude.{◌==◌, ◌||◌, ◌+◌, ◌*◌, ℕ, ℤ, Bool, false, pos, List, [], ◌∷◌, length, map, set, nat_lt, option_map, Option, Some, None, Result, Ok, Err, if◌then◌else◌}
+use Rattle.std.specs.Prelude.{◌==◌, ◌||◌, ◌+◌, ◌*◌, ℕ, ℤ, Bool, false, not, pos, List, [], ◌∷◌, length, map, set, nat_lt, option_map, Option, Some, None, Result, Ok, Err, if◌then◌else◌}
 use Rattle.lexical_util.specs.Faults.{place_of}
 use Rattle.lexical_util.specs.Number.{IntegerType}
 use Rattle.lexical_fields.specs.Fields.{FieldView}
 use Rattle.lexical_tables.specs.ByColumn.{columns_answer, columns_put, kinds_of}
 use Rattle.lexical_tables.specs.Parts.{readable}
+use Rattle.lexical_tables.specs.Readings.{FixedPoints, Integers, Number, Reading, Text, TextView, Texts, Value, blank, keeps_texts}
 use Rattle.lexical_tables.specs.Targets.{Slice, TargetView, slice_of, text_answer, with_number, with_row_bit}
 use Rattle.lexical_tables.specs.declared.answers.CellFault.{CellFault}
 use Rattle.lexical_tables.specs.declared.answers.CellFault.TheVariants.{MisplacedQuote, MissingReturn, NotNumber, TooFewCells, TooManyCells}
@@ -13,12 +14,14 @@ use Rattle.lexical_tables.specs.declared.answers.TableError.{TableError}
 use Rattle.lexical_tables.specs.declared.dialect.Dialect.{Dialect}
 use Rattle.lexical_tables.specs.declared.dialect.Layout.{Layout}
 use Rattle.lexical_tables.specs.declared.dialect.Layout.TheVariants.{Records, Separated, Widths}
-use Rattle.jadvolni.specs.Effect.{fault_place, fault_status, format_status, signed, unsigned}
+use Rattle.jadvolni.specs.Effect.{fault_place, fault_status, format_status, signed, unknown_field, unsigned}
+use Rattle.jadvolni.specs.Fixed.{fixed_format_status, fixed_of}
 use Rattle.jadvolni.specs.FormatFields.{are_zeros, flag, format_of}
-use Rattle.jadvolni.specs.declared.format.FormatFields.{FormatFields}
+use Rattle.jadvolni.specs.declared.fixed.FixedFields.{FixedFields}
 use Rattle.jadvolni.specs.declared.table_columns.ColumnFields.{ColumnFields}
 use Rattle.jadvolni.specs.declared.table_columns.NumberType.{NumberType}
 use Rattle.jadvolni.specs.declared.table_columns.NumberType.TheVariants.{I16, I32, I64, I8, U16, U32, U64, U8}
+use Rattle.jadvolni.specs.declared.text_columns.TextFields.{TextFields}
 use Rattle.jadvolni.specs.declared.tables.TableFields.{TableFields}
 use Rattle.jadvolni.specs.declared.tables.TableOutcome.{TableOutcome}
 
@@ -51,20 +54,45 @@ type_named I64 = signed 64
 abbrev pub bits_of : List ℕ → Option (List ℕ)
 bits_of bytes = if length bytes == 0 then None else Some bytes
 
--- a column as a target of numbers
-abbrev pub target_with : ColumnFields → IntegerType → Slice → List ℤ → Option TargetView
-target_with column type slice numbers = Some (record {
-  format = format_of column.format;
-  type = type;
+-- a column as a target, if its cells are read so, and its array has these values
+abbrev pub target_by : ColumnFields → Reading → Slice → List Value → TargetView
+target_by column reading slice values = record {
+  reading = reading;
   slice = slice;
-  numbers = numbers;
+  values = values;
   bits = option_map (λ bytes. slice_of column.present) (bits_of column.present.now);
   present = bits_of column.present.now;
-})
+}
 
--- a column as a target, if it is read as numbers of a type
+-- what numbers of a type are read as: integers, or fixed-point numbers where they have places
+abbrev pub reading_of : FixedFields → IntegerType → Reading
+reading_of description type =
+    if description.places == 0 then Integers (format_of description.integer) type
+    else FixedPoints (fixed_of description) type
+
+-- a column as a target of numbers
+abbrev pub target_with : ColumnFields → IntegerType → Slice → List ℤ → Option TargetView
+target_with column type slice numbers =
+    Some (target_by column (reading_of column.description type) slice (map Number numbers))
+
+-- a text as C has it
+abbrev pub view_of_text : TextFields → TextView
+view_of_text text = record {
+  start = text.start;
+  size = text.size;
+  has_doubled_quotes = flag text.has_doubled_quotes;
+}
+
+-- a column as a target of texts, if its array of texts has room
+abbrev pub text_target : ColumnFields → Option TargetView
+text_target column =
+    if length column.texts.now == 0 then None
+    else Some (target_by column Texts (slice_of column.texts)
+    (map (λ text. Text (view_of_text text)) column.texts.now))
+
+-- a column as a target, if it is read as numbers of a type, or else as texts
 abbrev pub target_as : ColumnFields → Option NumberType → Option TargetView
-target_as column None = None
+target_as column None = text_target column
 target_as column (Some U8) =
     target_with column (unsigned 8) (slice_of column.u8s) (map pos column.u8s.now)
 target_as column (Some U16) =
@@ -82,19 +110,19 @@ target_as column (Some I64) = target_with column (signed 64) (slice_of column.i6
 abbrev pub target_of : ColumnFields → Option TargetView
 target_of column = target_as column (number_type column)
 
--- a target with the number of a text at a row's place
+-- a target with the value of a text at a row's place
 abbrev pub put_number : ℕ → FieldView → TargetView → TargetView
 put_number row text target = record target {
-  numbers = with_number row (text_answer target text) target.numbers;
+  values = with_number row (text_answer target text) target.values;
 }
 
 -- a target with a number at a row's place
 abbrev pub put_at : ℕ → ℤ → TargetView → TargetView
-put_at row number target = record target { numbers = set target.numbers row number }
+put_at row number target = record target { values = set target.values row (Number number) }
 
--- a target with 0 at a row's place
+-- a target with 0, or a text of no bytes, at a row's place
 abbrev pub put_zero : ℕ → TargetView → TargetView
-put_zero row target = record target { numbers = set target.numbers row (pos 0) }
+put_zero row target = record target { values = set target.values row (blank target.reading) }
 
 -- a target with a row's bit
 abbrev pub put_presence : ℕ → Bool → TargetView → TargetView
@@ -110,17 +138,25 @@ abbrev pub lacks_bits : ℕ → Option (List ℕ) → Bool
 lacks_bits rows None = false
 lacks_bits rows (Some bytes) = nat_lt (8 * length bytes) rows
 
--- what is wrong with a target of this format for so many rows; a column that is no target has the radix 0, if rows are asked for
-abbrev pub target_status : ℕ → FormatFields → Option TargetView → ℕ
-target_status rows format None =
-    if rows == 0 || format.mantissa_radix == 0 then 0 else invalid_table
-target_status rows format (Some target) =
-    if nat_lt (length target.numbers) rows || lacks_bits rows target.present
-    then invalid_table else format_status format
+-- the status of the format that numbers are read under, or of their description where they have places
+abbrev pub number_status : FixedFields → ℕ
+number_status description =
+    if not (are_zeros description.reserved) then unknown_field
+    else if description.places == 0 then format_status description.integer
+    else fixed_format_status description
+
+-- What is wrong with a target for so many rows. A column that is no target has the radix 0, if rows are asked for, and what
+-- numbers look like doesn't count for texts.
+abbrev pub target_status : ℕ → FixedFields → Option TargetView → ℕ
+target_status rows description None =
+    if rows == 0 || description.integer.mantissa_radix == 0 then 0 else invalid_table
+target_status rows description (Some target) =
+    if nat_lt (length target.values) rows || lacks_bits rows target.present then invalid_table
+    else if keeps_texts target.reading then 0 else number_status description
 
 -- the status of a column for so many rows: 0 if it can be read, or isn't meant to be
 abbrev pub column_status : ℕ → ColumnFields → ℕ
-column_status rows column = target_status rows column.format (target_of column)
+column_status rows column = target_status rows column.description (target_of column)
 
 -- ---- what is answered
 

@@ -1,5 +1,5 @@
 -- Cells with what they hold.
-use Rattle.std.specs.Prelude.{◌≡◌, ◌≢◌, ◌++◌, ◌/◌, ◌%◌, ◌<◌, ℕ, ℤ, Bool, List, length, codes, [], ◌∷◌, pos, true, false, Option, Some, None, Ok, Err}
+use Rattle.std.specs.Prelude.{◌≡◌, ◌≢◌, ◌++◌, ◌/◌, ◌%◌, ◌<◌, ℕ, ℤ, Bool, List, length, map, codes, [], ◌∷◌, pos, true, false, Option, Some, None, Ok, Err}
 use Rattle.std.specs.Int.{bit_at, bit_not}
 use Rattle.std.specs.Int.Bits.{bit_and, bit_or}
 use Rattle.std.proofs.lemmas.Nat.{one_shl}
@@ -11,6 +11,7 @@ use Rattle.lexical_util.specs.Number.{integer_type}
 use Rattle.lexical_parse_integer.specs.Computed.{grammar}
 use Rattle.lexical_tables.specs.ByColumn.{columns_put}
 use Rattle.lexical_tables.specs.Cells.{Kind, answer_as, content}
+use Rattle.lexical_tables.specs.Readings.{Integers, Number}
 use Rattle.lexical_tables.specs.Targets.{TargetView, put_value, with_bit, with_row_bit}
 use Rattle.lexical_tables.specs.declared.answers.CellFault.TheVariants.{MisplacedQuote, NotNumber}
 use Rattle.lexical_tables.specs.declared.dialect.Dialect.{Dialect}
@@ -36,7 +37,7 @@ unspaced = refl
 -- ---- cells that are read
 
 abbrev numbers_of_8 : Bool → Kind
-numbers_of_8 may_miss = record { format = standard; type = integer_type 8 false; may_miss = may_miss }
+numbers_of_8 may_miss = record { reading = Integers standard (integer_type 8 false); may_miss = may_miss }
 
 abbrev bytes : Option Kind
 bytes = Some (numbers_of_8 false)
@@ -44,7 +45,7 @@ bytes = Some (numbers_of_8 false)
 abbrev spacious : Dialect
 spacious = record (plain 2 false) { allows_blanks = true }
 
-number_in_blanks : answer_as spacious bytes (record { start = 5; text = codes " 80 " }) ≡ Ok (Some (pos 80))
+number_in_blanks : answer_as spacious bytes (record { start = 5; text = codes " 80 " }) ≡ Ok (Some (Number (pos 80)))
 unfolding grammar
 number_in_blanks = refl
 
@@ -76,7 +77,7 @@ unfolding grammar
 missing = refl
 
 -- elsewhere it doesn't
-not_missing : answer_as (marked (codes "0")) bytes (record { start = 5; text = codes " 0 " }) ≡ Ok (Some (pos 0))
+not_missing : answer_as (marked (codes "0")) bytes (record { start = 5; text = codes " 0 " }) ≡ Ok (Some (Number (pos 0)))
 unfolding grammar
 not_missing = refl
 
@@ -97,7 +98,7 @@ abbrev quoting : Dialect
 quoting = record (plain 2 false) { has_quotes = true; allows_blanks = true }
 
 -- a number in quotes stands between them
-quoted : answer_as quoting bytes (record { start = 5; text = codes "\"80\"" }) ≡ Ok (Some (pos 80))
+quoted : answer_as quoting bytes (record { start = 5; text = codes "\"80\"" }) ≡ Ok (Some (Number (pos 80)))
 unfolding grammar
 quoted = refl
 
@@ -185,23 +186,22 @@ other_bits row other false byte low differs =
 
 abbrev half_read : TargetView
 half_read = record {
-  format = standard;
-  type = integer_type 8 false;
+  reading = Integers standard (integer_type 8 false);
   slice = record { at = (8, 0); name = 1 };
-  numbers = pos 77 ∷ pos 77 ∷ [];
+  values = Number (pos 77) ∷ Number (pos 77) ∷ [];
   bits = Some (record { at = (9, 0); name = 2 });
   present = Some (255 ∷ []);
 }
 
 -- a missing number is 0
-missing_put : put_value 1 None half_read ≡ record half_read { numbers = pos 77 ∷ pos 0 ∷ []; present = Some (253 ∷ []) }
+missing_put : put_value 1 None half_read ≡ record half_read { values = Number (pos 77) ∷ Number (pos 0) ∷ []; present = Some (253 ∷ []) }
 missing_put = refl
 
 -- the mark clears a row's bit and a number sets it where the column has bits, and elsewhere the mark is no number
 abbrev with_bits_and_without : List ℤ → List ℕ → List ℤ → List (Option TargetView)
 with_bits_and_without first present second =
-    Some (record half_read { numbers = first; present = Some present })
-    ∷ Some (record half_read { numbers = second; bits = None; present = None }) ∷ []
+    Some (record half_read { values = map Number first; present = Some present })
+    ∷ Some (record half_read { values = map Number second; bits = None; present = None }) ∷ []
 
 marks_put : columns_put (marked (codes "NA")) 3 (line (codes "1,2") ++ line (codes "NA,3") ++ codes "4,NA")
     (with_bits_and_without (pos 77 ∷ pos 77 ∷ pos 77 ∷ []) (250 ∷ []) (pos 77 ∷ pos 77 ∷ pos 77 ∷ []))

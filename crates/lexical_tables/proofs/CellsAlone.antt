@@ -4,6 +4,7 @@ use Rattle.std.specs.List.{slice_get}
 use Rattle.std.proofs.lemmas.Bool.{cases_lt, le-ltb, lt-ltb}
 use Rattle.lexical_fields.specs.Columns as columns
 use Rattle.lexical_fields.specs.Fields.{FieldView}
+use Rattle.lexical_tables.specs.Readings.{Value}
 use Rattle.lexical_tables.specs.ByColumn.{cell_answers, end_fault, wrong_cell}
 use Rattle.lexical_tables.specs.Cells.{Kind, answer_as}
 use Rattle.lexical_tables.specs.OneColumn.{only}
@@ -15,7 +16,7 @@ use Rattle.lexical_tables.specs.declared.dialect.Dialect.{Dialect}
 use Rattle.lexical_tables.proofs.QuotesUnread.{unread_fine}
 
 abbrev Answers : Type 0
-Answers = List (Result (Option ℤ) CellFault)
+Answers = List (Result (Option Value) CellFault)
 
 pub answers_long : (d : Dialect) (kinds : List (Option Kind)) (cells : List FieldView)
     → length (cell_answers d kinds cells) ≡ length cells
@@ -38,7 +39,7 @@ unread_all d [] (cell ∷ cells) fine = fine
 unread_all d (kind ∷ kinds) (cell ∷ cells) fine =
     by_answer (answer_as d kind cell) (unread_all d kinds cells) refl fine
   where
-    by_answer : (answer : Result (Option ℤ) CellFault)
+    by_answer : (answer : Result (Option Value) CellFault)
         → (columns.first_fault (cell_answers d kinds cells) ≡ None → columns.first_fault (cell_answers d [] cells) ≡ None)
         → answer_as d kind cell ≡ answer
         → columns.first_fault (answer ∷ cell_answers d kinds cells) ≡ None
@@ -57,14 +58,14 @@ alone_fine d zero (kind ∷ kinds) [] fine = refl
 alone_fine d (suc column) (kind ∷ kinds) [] fine = refl
 alone_fine d zero (kind ∷ kinds) (cell ∷ cells) fine = by_answer (answer_as d kind cell) fine
   where
-    by_answer : (answer : Result (Option ℤ) CellFault) → columns.first_fault (answer ∷ cell_answers d kinds cells) ≡ None
+    by_answer : (answer : Result (Option Value) CellFault) → columns.first_fault (answer ∷ cell_answers d kinds cells) ≡ None
         → columns.first_fault (answer ∷ cell_answers d [] cells) ≡ None
     by_answer (Ok value) fine = unread_all d kinds cells fine
     by_answer (Err fault) fine = absurd cc
 alone_fine d (suc column) (kind ∷ kinds) (cell ∷ cells) fine =
     by_answer (answer_as d kind cell) (alone_fine d column kinds cells) refl fine
   where
-    by_answer : (answer : Result (Option ℤ) CellFault)
+    by_answer : (answer : Result (Option Value) CellFault)
         → (columns.first_fault (cell_answers d kinds cells) ≡ None
         → columns.first_fault (cell_answers d (only column kinds) cells) ≡ None)
         → answer_as d kind cell ≡ answer
@@ -86,7 +87,7 @@ alone_value d zero (kind ∷ kinds) [] low = refl
 alone_value d (suc column) (kind ∷ kinds) [] low = refl
 alone_value d zero (kind ∷ kinds) (cell ∷ cells) low = by_answer (answer_as d kind cell)
   where
-    by_answer : (answer : Result (Option ℤ) CellFault)
+    by_answer : (answer : Result (Option Value) CellFault)
         → slice_get (columns.values_before_fault (answer ∷ cell_answers d [] cells)) 0
         ≡ slice_get (columns.values_before_fault (answer ∷ cell_answers d kinds cells)) 0
     by_answer (Ok value) = refl
@@ -94,7 +95,7 @@ alone_value d zero (kind ∷ kinds) (cell ∷ cells) low = by_answer (answer_as 
 alone_value d (suc column) (kind ∷ kinds) (cell ∷ cells) low =
     by_answer (answer_as d kind cell) (alone_value d column kinds cells) refl low
   where
-    by_answer : (answer : Result (Option ℤ) CellFault)
+    by_answer : (answer : Result (Option Value) CellFault)
         → (column < length (columns.values_before_fault (cell_answers d kinds cells))
         → slice_get (columns.values_before_fault (cell_answers d (only column kinds) cells)) column
         ≡ slice_get (columns.values_before_fault (cell_answers d kinds cells)) column)

@@ -2,9 +2,10 @@
 use Rattle.std.proofs.Common.{◌≡◌, ◌∙◌, ℕ, zero, suc, ◌<◌, List, [], ◌∷◌, length, get_or, ℤ, Result, Option, Some, None, refl, ap, sym, subst, arith}
 use Rattle.std.proofs.lemmas.List.{length-map}
 use Rattle.std.specs.Prelude.{is_some, option_map, slice_index}
+use Rattle.lexical_tables.specs.Readings.{Value}
 use Rattle.lexical_tables.specs.ByColumn.{kind_of, kinds_of, put_read_at, put_row}
 use Rattle.lexical_tables.specs.Cells.{Kind}
-use Rattle.lexical_tables.specs.Codes.{AreCodes, IsCodeIn, IsDecimal, IsReadAs, coded_type, has_coded_bits, has_zero_rule}
+use Rattle.lexical_tables.specs.Codes.{AreCoded, AreCodes, IsCodeIn, IsReadAs, has_coded_bits}
 use Rattle.lexical_tables.specs.Targets.{TargetView}
 use Rattle.lexical_tables.specs.declared.answers.CellFault.{CellFault}
 use Rattle.lexical_tables.specs.declared.dialect.Dialect.{Dialect}
@@ -13,8 +14,7 @@ use Rattle.lexical_tables.proofs.PutSteps.{kinds_put, kinds_put_row}
 -- what a code says of a column, it says of what that is read as
 abbrev IsKindAs : ℕ → Option Kind → Type 0
 IsKindAs code None = ⊥
-IsKindAs code (Some kind) = IsDecimal kind.format (has_zero_rule code)
-    × (kind.type ≡ coded_type code) × (kind.may_miss ≡ has_coded_bits code)
+IsKindAs code (Some kind) = AreCoded code kind.reading × (kind.may_miss ≡ has_coded_bits code)
 
 to_kind : (code : ℕ) (target : Option TargetView) → IsReadAs code target → IsKindAs code (option_map kind_of target)
 to_kind code None read = read
@@ -58,13 +58,13 @@ codes_stay dialect codes old new same are = λ k coded low.
     (are k coded (omega (arith, as_many, low)))
 
 -- the numbers of a cell and of a row change no code
-pub codes_put : (dialect : Dialect) (codes : List ℕ) (row column : ℕ) (answer : Result (Option ℤ) CellFault)
+pub codes_put : (dialect : Dialect) (codes : List ℕ) (row column : ℕ) (answer : Result (Option Value) CellFault)
     (targets : List (Option TargetView)) → AreCodes dialect codes targets
     → AreCodes dialect codes (put_read_at row column answer targets)
 codes_put dialect codes row column answer targets =
     codes_stay dialect codes targets (put_read_at row column answer targets) (kinds_put row column answer targets)
 
-pub codes_put_row : (dialect : Dialect) (codes : List ℕ) (row : ℕ) (values : List (Option ℤ))
+pub codes_put_row : (dialect : Dialect) (codes : List ℕ) (row : ℕ) (values : List (Option Value))
     (targets : List (Option TargetView)) → AreCodes dialect codes targets
     → AreCodes dialect codes (put_row row values targets)
 codes_put_row dialect codes row values targets =

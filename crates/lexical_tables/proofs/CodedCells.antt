@@ -1,15 +1,18 @@
 -- A cell of digits that is read by its column's code.
-use Rattle.std.proofs.Common.{◌≡◌, ◌∙◌, ℕ, ◌+◌, ◌-◌, ◌*◌, ◌≤◌, List, true, false, length, length-take-le, take, drop, Option, Some, None, Ok, refl, ap, sym, subst, arith, inl, inr}
+use Rattle.std.proofs.Common.{◌≡◌, ◌∙◌, ℕ, ◌+◌, ◌-◌, ◌*◌, ◌≤◌, List, true, false, length, length-take-le, Bool, take, drop, Option, Some, None, Ok, refl, ap, sym, subst, arith, inl, inr}
 use Rattle.std.specs.Prelude.{is_some, option_map}
 use Rattle.std.proofs.lemmas.List.{drop-take, take-take}
 use Rattle.lexical_parse_integer.specs.Value.{with_sign}
+use Rattle.lexical_util.specs.Format.{Format}
+use Rattle.lexical_util.specs.Validity.{fault}
 use Rattle.lexical_fields.specs.Fields.{FieldView}
 use Rattle.lexical_tables.specs.ByColumn.{IsUsable, fault_in, kind_of, put_read}
 use Rattle.lexical_tables.specs.Cells.{answer_as, ends_in_digit}
-use Rattle.lexical_tables.specs.Codes.{AreQuotesRound, IsCodeIn, IsDecimal, IsNumberPut, IsNumeralUnder, coded_type, has_coded_bits, has_zero_rule}
+use Rattle.lexical_tables.specs.Codes.{AreCoded, AreQuotesRound, IsCodeIn, IsDecimal, IsNumberPut, IsNumeralUnder, coded_type, has_coded_bits, has_zero_rule}
+use Rattle.lexical_tables.specs.Readings.{FixedPoints, Integers, IsValid, Number, Reading, Texts}
 use Rattle.lexical_tables.specs.Targets.{TargetView}
 use Rattle.lexical_tables.specs.declared.dialect.Dialect.{Dialect}
-use Rattle.lexical_tables.proofs.PlainCells.{plain_answer, quoted_answer, unread_answer}
+use Rattle.lexical_tables.proofs.PlainCells.{integers, plain_answer, quoted_answer, unread_answer}
 
 -- What is answered of a cell, and what the target then is: no fault.
 pub record IsCellPut (d : Dialect) (row : ℕ) (cell : FieldView) (old new : Option TargetView) : Type 0 where
@@ -30,40 +33,46 @@ module _ (start size : ℕ) (ahead : List ℕ) where
   digits_put : (d : Dialect) (code row quotes : ℕ) (old new : Option TargetView)
       → IsCodeIn d code old → 8 ≤ code → IsUsable (row + 1) old → size ≤ length ahead
       → AreQuotesRound d.has_quotes cell.text quotes
-      → IsNumberPut row (take (size - 2 * quotes) (drop quotes ahead)) old new
+      → IsNumberPut code row (take (size - 2 * quotes) (drop quotes ahead)) old new
       → IsCellPut d row cell old new
   digits_put d code row quotes None new coded read usable low round put = absurd (coded.column.read read)
   digits_put d code row quotes (Some target) new coded read usable low round put = record {
-    fault = ap fault_in (answer_is round);
-    target = put.put ∙ ap (λ a. Some (put_read row a target)) (sym (answer_is round));
+    fault = ap fault_in (answer_is target.reading refl round);
+    target = put.put ∙ ap (λ a. Some (put_read row a target)) (sym (answer_is target.reading refl round));
   }
     where
       long : length cell.text ≡ size
       long = length-take-le size ahead low
 
-      as_kind : IsDecimal target.format (has_zero_rule code) × (target.type ≡ coded_type code)
-          × (is_some target.present ≡ has_coded_bits code)
+      may_miss : Bool
+      may_miss = is_some target.present
+
+      as_kind : AreCoded code target.reading × (may_miss ≡ has_coded_bits code)
       as_kind = coded.column.read read
 
-      no_mark : is_some target.present ≡ true → ends_in_digit d.missing.now ≡ false
-      no_mark misses = coded.no_number read (sym as_kind.2 ∙ misses)
+      no_mark : may_miss ≡ true → ends_in_digit d.missing.now ≡ false
+      no_mark misses = coded.no_number read (sym as_kind.1 ∙ misses)
 
-      answer_is : AreQuotesRound d.has_quotes cell.text quotes
-          → answer_as d (Some (kind_of target)) cell ≡ Ok (Some (with_sign put.is_negative put.number))
-      answer_is (inl none) =
+      answer_of : (format : Format) → IsDecimal format (has_zero_rule code) → fault format ≡ None
+          → AreQuotesRound d.has_quotes cell.text quotes
+          → answer_as d (Some (integers format (coded_type code) may_miss)) cell
+          ≡ Ok (Some (Number (with_sign put.is_negative put.number)))
+      answer_of format decimal valid (inl none) =
           let whole : size - 2 * quotes ≡ size = omega (arith, none) in
           let text : take (size - 2 * quotes) (drop quotes ahead) ≡ cell.text =
           ap (λ n. take n (drop quotes ahead)) whole ∙ ap (λ q. take size (drop q ahead)) none in
-          plain_answer d (kind_of target) cell put.is_negative put.number (coded.no_blanks read)
-          (subst (IsNumeralUnder target.format put.is_negative put.number) text put.numeral) usable.0 as_kind.0.plain as_kind.0.decimal put.fits put.minus no_mark
-      answer_is (inr one) =
+          plain_answer d format (coded_type code) may_miss cell put.is_negative put.number (coded.no_blanks read)
+          (subst (IsNumeralUnder format put.is_negative put.number) text (put.numeral format decimal)) valid decimal.plain
+          decimal.decimal put.fits put.minus no_mark
+      answer_of format decimal valid (inr one) =
           let within : size - 2 * quotes ≡ length cell.text - 2 = omega (arith, one.0, long) in
           let some : 2 ≤ size = omega (arith, one.2, long) in
           let text : take (size - 2 * quotes) (drop quotes ahead) ≡ take (length cell.text - 2) (drop 1 cell.text) =
           ap (λ n. take n (drop quotes ahead)) within ∙ ap (λ q. take (length cell.text - 2) (drop q ahead)) one.0
           ∙ inner some in
-          quoted_answer d (kind_of target) cell put.is_negative put.number (coded.no_blanks read) one.1 one.2 one.3 one.4
-          (subst (IsNumeralUnder target.format put.is_negative put.number) text put.numeral) usable.0 as_kind.0.plain as_kind.0.decimal put.fits put.minus no_mark
+          quoted_answer d format (coded_type code) may_miss cell put.is_negative put.number (coded.no_blanks read) one.1 one.2
+          one.3 one.4 (subst (IsNumeralUnder format put.is_negative put.number) text (put.numeral format decimal)) valid
+          decimal.plain decimal.decimal put.fits put.minus no_mark
         where
           inner : 2 ≤ size → take (length cell.text - 2) (drop 1 ahead) ≡ take (length cell.text - 2) (drop 1 cell.text)
           inner some =
@@ -73,15 +82,25 @@ module _ (start size : ℕ) (ahead : List ℕ) where
               ∙ ap (take (length cell.text - 2)) (drop-take 1 n ahead)
               ∙ take-take (length cell.text - 2) n (drop 1 ahead) (omega (arith, long)))
 
+      answer_is : (reading : Reading) → target.reading ≡ reading → AreQuotesRound d.has_quotes cell.text quotes
+          → answer_as d (Some (kind_of target)) cell ≡ Ok (Some (Number (with_sign put.is_negative put.number)))
+      answer_is (Integers format type) is quoted =
+          let coded_as : AreCoded code (Integers format type) = subst (AreCoded code) is as_kind.0 in
+          ap (λ r. answer_as d (Some (record { reading = r; may_miss = may_miss })) cell) is
+          ∙ ap (λ t. answer_as d (Some (integers format t may_miss)) cell) coded_as.1
+          ∙ answer_of format coded_as.0 (subst IsValid is usable.0) quoted
+      answer_is (FixedPoints fixed type) is quoted = absurd (subst (AreCoded code) is as_kind.0)
+      answer_is Texts is quoted = absurd (subst (AreCoded code) is as_kind.0)
+
   -- of what stands within its quotes
   pub found_put : (d : Dialect) (code row : ℕ) (old new : Option TargetView) (held : List ℕ) (count : ℕ)
       → IsCodeIn d code old → 8 ≤ code → IsUsable (row + 1) old → size + 17 ≤ length ahead
       → AreQuotesRound d.has_quotes cell.text (length ahead - length held)
       → held ≡ drop (length ahead - length held) ahead → count + 2 * (length ahead - length held) ≡ size
-      → IsNumberPut row (take count held) old new → IsCellPut d row cell old new
+      → IsNumberPut code row (take count held) old new → IsCellPut d row cell old new
   found_put d code row old new held count coded read usable room round tail is put =
       let quotes = length ahead - length held in
       let counted : count ≡ size - 2 * quotes = omega (arith, is) in
       digits_put d code row quotes old new coded read usable (omega (arith, room)) round
-      (subst (λ l. IsNumberPut row (take (size - 2 * quotes) l) old new) tail
-      (subst (λ n. IsNumberPut row (take n held) old new) counted put))
+      (subst (λ l. IsNumberPut code row (take (size - 2 * quotes) l) old new) tail
+      (subst (λ n. IsNumberPut code row (take n held) old new) counted put))

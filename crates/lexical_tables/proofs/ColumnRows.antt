@@ -10,6 +10,7 @@ use Rattle.lexical_tables.specs.Cells.{Kind}
 use Rattle.lexical_tables.specs.Header.{behind_lines}
 use Rattle.lexical_tables.specs.OneColumn.{cells_read, only}
 use Rattle.lexical_tables.specs.Parts.{error_behind, fault_behind, readable}
+use Rattle.lexical_tables.specs.Readings.{Integers, Number}
 use Rattle.lexical_tables.specs.Targets.{TargetView}
 use Rattle.lexical_tables.specs.declared.answers.CellFault.TheVariants.{MisplacedQuote, MissingReturn, NotNumber, TooFewCells, TooManyCells}
 use Rattle.lexical_tables.specs.declared.dialect.Dialect.{Dialect}
@@ -33,18 +34,16 @@ four = plain 4 false
 -- the first column is read as `u8`, the third as hexadecimal `i8`, the second and the fourth aren't read
 abbrev pub targets : List ℤ → List ℤ → List (Option TargetView)
 targets first third = Some (record {
-  format = standard;
-  type = integer_type 8 false;
+  reading = Integers standard (integer_type 8 false);
   slice = record { at = (8, 0); name = 1 };
-  numbers = first;
+  values = map Number first;
   bits = None;
   present = None;
 })
     ∷ None ∷ Some (record {
-      format = record standard { mantissa_radix = 16 };
-      type = integer_type 8 true;
+      reading = Integers (record standard { mantissa_radix = 16 }) (integer_type 8 true);
       slice = record { at = (9, 0); name = 2 };
-      numbers = third;
+      values = map Number third;
       bits = None;
       present = None;
     }) ∷ []
@@ -95,8 +94,8 @@ empty_last = refl
 
 abbrev pub both : List (Option Kind)
 both =
-    Some (record { format = standard; type = integer_type 8 false; may_miss = false })
-    ∷ Some (record { format = standard; type = integer_type 8 false; may_miss = false }) ∷ []
+    Some (record { reading = Integers standard (integer_type 8 false); may_miss = false })
+    ∷ Some (record { reading = Integers standard (integer_type 8 false); may_miss = false }) ∷ []
 
 abbrev pairs : Bool → Dialect
 pairs has_returns = plain 2 has_returns
@@ -256,7 +255,7 @@ quoted = record (pairs false) { has_quotes = true }
 
 -- the first column is read
 abbrev pub first : List (Option Kind)
-first = Some (record { format = standard; type = integer_type 8 false; may_miss = false }) ∷ []
+first = Some (record { reading = Integers standard (integer_type 8 false); may_miss = false }) ∷ []
 
 -- within quotes a separator parts no cells, and a line feed ends no row
 within_quotes : columns_answer first quoted 4 (line (codes "1,\"a,b" ++ 10 ∷ codes "c\"") ++ codes "2,")

@@ -3,6 +3,7 @@ use Rattle.std.proofs.Common.{◌≡◌, ◌∙◌, ℕ, suc, ◌+◌, ◌-◌, 
 use Rattle.std.proofs.lemmas.List.{drop_all, drop-drop, take_all}
 use Rattle.lexical_fields.specs.Columns as columns
 use Rattle.lexical_fields.specs.Fields.{FieldView}
+use Rattle.lexical_tables.specs.Readings.{Value}
 use Rattle.lexical_tables.specs.ByColumn.{AreUsable, answer_at, cell_answers, cells_of, end_fault, fault_in, fault_of, first_start, kinds_of, put_read_at, put_row, row_answers, row_values, wrong_cell}
 use Rattle.lexical_tables.specs.Cells.{Kind}
 use Rattle.lexical_tables.specs.RowSoFar.{IsRowDone, IsRowPut, answers_left, count_in}
@@ -33,15 +34,15 @@ row_starts kinds d index row old left same usable all =
     }
 
 -- answers by their faults
-abbrev value_in : Result (Option ℤ) CellFault → Option ℤ
+abbrev value_in : Result (Option Value) CellFault → Option Value
 value_in (Ok value) = value
 value_in (Err fault) = None
 
-ok_of : (answer : Result (Option ℤ) CellFault) → None ≡ fault_in answer → answer ≡ Ok (value_in answer)
+ok_of : (answer : Result (Option Value) CellFault) → None ≡ fault_in answer → answer ≡ Ok (value_in answer)
 ok_of (Ok value) none = refl
 ok_of (Err error) none = absurd cc
 
-err_of : (answer : Result (Option ℤ) CellFault) (fault : CellFault) → Some fault ≡ fault_in answer → answer ≡ Err fault
+err_of : (answer : Result (Option Value) CellFault) (fault : CellFault) → Some fault ≡ fault_in answer → answer ≡ Err fault
 err_of (Ok value) fault some = absurd cc
 err_of (Err other) fault some = cc
 
@@ -105,7 +106,7 @@ module _ (kinds : List (Option Kind)) (d : Dialect) (index : ℕ) (row : RowView
         ∷ cell_answers d (drop k kinds) (take (count_in d - (column + 1)) others)) plus
 
     -- one cell more
-    pub cell_goes : (new : List (Option TargetView)) (value : Option ℤ) → answer_at d kinds column cell ≡ Ok value
+    pub cell_goes : (new : List (Option TargetView)) (value : Option Value) → answer_at d kinds column cell ≡ Ok value
         → new ≡ put_read_at index column (Ok value) now → IsRowPut kinds d index row old new (column + 1) others
     cell_goes new value told are =
         let later = columns.values_before_fault (answers_left kinds d (column + 1) others) in
@@ -148,7 +149,7 @@ module _ (kinds : List (Option Kind)) (d : Dialect) (index : ℕ) (row : RowView
         }
 
     -- the cell that was read, by what is answered of it
-    abbrev answer_here : Result (Option ℤ) CellFault
+    abbrev answer_here : Result (Option Value) CellFault
     answer_here = answer_at d (kinds_of now) column cell
 
     as_here : answer_at d kinds column cell ≡ answer_here

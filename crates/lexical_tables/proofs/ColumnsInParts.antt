@@ -2,18 +2,20 @@
 use Rattle.std.proofs.Common.{◌≡◌, ◌∙◌, ℕ, zero, suc, ◌+◌, List, [], ◌∷◌, ◌++◌, length, take, drop, map, cond, eqb, ◌&&◌, true, false, Bool, ℤ, Result, Option, Some, None, Ok, Err, refl, ap, ap₂, sym, arith, length-take-le}
 use Rattle.std.specs.List.{prefix_len}
 use Rattle.std.specs.Str.{bytes_eq}
-use Rattle.std.specs.Prelude.{is_none, nat_lt, option_map}
+use Rattle.std.specs.Prelude.{is_none, nat_lt, not, option_map}
 use Rattle.std.proofs.lemmas.List.{length-map}
 use Rattle.lexical_util.specs.declared.error.Error.{Error}
-use Rattle.lexical_util.specs.Validity.{fault}
 use Rattle.lexical_fields.specs.Columns as columns
 use Rattle.lexical_fields.specs.Fields.{FieldView, fields_from}
 use Rattle.lexical_fields.specs.Places.{in_text}
 use Rattle.lexical_fields.specs.ReadFields.{field_answer}
-use Rattle.lexical_fields.proofs.MovedFields.{answer_moved, fields_moved, moved}
+use Rattle.lexical_fields.proofs.MovedFields.{answer_moved, error_moved, fields_moved, moved}
+use Rattle.lexical_fixed.specs.Grammar.{complete_fixed}
+use Rattle.lexical_parse_integer.specs.Answer.{view_of}
+use Rattle.lexical_tables.specs.Readings.{FixedPoints, Integers, IsValid, Number, Reading, Texts, Value, fixed_answer, keeps_texts, value_by}
 use Rattle.lexical_tables.specs.ByColumn.{cell_answers, cells_by_width, cells_left, cells_of, end_fault, fault_of, first_fault, first_of, first_start, row_answers, row_fault, row_values, values_to_fault, wrong_cell}
-use Rattle.lexical_tables.specs.Cells.{Kind, answer_as, begins_with_quote, content, is_blank, misplaced_quote, number_at, quote_fault, some_number, unless, within_quotes, without_blanks, without_quotes}
-use Rattle.lexical_tables.specs.Parts.{AreValid, ColumnsInParts, fault_behind, fault_in, error_behind, values_in, whole_rows}
+use Rattle.lexical_tables.specs.Cells.{Kind, answer_as, begins_with_quote, content, is_blank, misplaced_quote, quote_fault, some_value, unless, value_at, within_quotes, without_blanks, without_quotes}
+use Rattle.lexical_tables.specs.Parts.{AreValid, ColumnsInParts, fault_behind, fault_in, error_behind, value_behind, values_behind, values_in, whole_rows}
 use Rattle.lexical_tables.specs.Quotes.{as_long_as, seen}
 use Rattle.lexical_tables.specs.Rows.{RowView, rows}
 use Rattle.lexical_tables.specs.declared.answers.CellFault.{CellFault}
@@ -77,8 +79,8 @@ end_moved before bytes columns index row count extra =
 
 -- ---- a cell further behind
 
-abbrev answer_behind : ℕ → Result (Option ℤ) CellFault → Result (Option ℤ) CellFault
-answer_behind bytes (Ok value) = Ok value
+abbrev answer_behind : ℕ → Result (Option Value) CellFault → Result (Option Value) CellFault
+answer_behind bytes (Ok value) = Ok (option_map (value_behind bytes) value)
 answer_behind bytes (Err fault) = Err (fault_behind bytes fault)
 
 -- what a cell holds is moved with it
@@ -110,10 +112,10 @@ content_moved bytes has_quotes allows_blanks cell =
     ∙ blanks_moved bytes allows_blanks (without_quotes has_quotes cell)
 
 -- so are its quotes
-quotes_moved : (bytes : ℕ) (has_quotes is_read : Bool) (cell : FieldView)
-    → quote_fault has_quotes is_read (moved bytes cell) ≡ option_map (fault_behind bytes) (quote_fault has_quotes is_read cell)
-quotes_moved bytes false is_read cell = refl
-quotes_moved bytes true is_read cell = by_place (misplaced_quote is_read cell.text)
+quotes_moved : (bytes : ℕ) (has_quotes is_number : Bool) (cell : FieldView)
+    → quote_fault has_quotes is_number (moved bytes cell) ≡ option_map (fault_behind bytes) (quote_fault has_quotes is_number cell)
+quotes_moved bytes false is_number cell = refl
+quotes_moved bytes true is_number cell = by_place (misplaced_quote is_number cell.text)
   where
     behind : (place : ℕ) → bytes + cell.start + place ≡ bytes + (cell.start + place)
     behind place = omega arith
@@ -123,28 +125,41 @@ quotes_moved bytes true is_read cell = by_place (misplaced_quote is_read cell.te
     by_place None = refl
     by_place (Some place) = ap (λ k. Some (MisplacedQuote k)) (behind place)
 
-unless_moved : (bytes : ℕ) (found : Option CellFault) (answer : Result (Option ℤ) CellFault)
+unless_moved : (bytes : ℕ) (found : Option CellFault) (answer : Result (Option Value) CellFault)
     → unless (option_map (fault_behind bytes) found) (answer_behind bytes answer) ≡ answer_behind bytes (unless found answer)
 unless_moved bytes None answer = refl
 unless_moved bytes (Some fault) answer = refl
 
 number_moved : (bytes : ℕ) (answer : Result ℤ Error)
-    → some_number (in_text bytes answer) ≡ answer_behind bytes (some_number answer)
+    → some_value (view_of Number (in_text bytes answer)) ≡ answer_behind bytes (some_value (view_of Number answer))
 number_moved bytes (Ok number) = refl
 number_moved bytes (Err error) = refl
 
+result_moved : (p q : ℕ) (r : Result ℤ Error) → in_text p (in_text q r) ≡ in_text (p + q) r
+result_moved p q (Ok value) = refl
+result_moved p q (Err error) = ap Err (error_moved p q error)
+
 -- what a text stands for is moved with it
-held_moved : (bytes : ℕ) (mark : List ℕ) (kind : Kind) (held : FieldView) → fault kind.format ≡ None
-    → number_at mark kind (moved bytes held) ≡ answer_behind bytes (number_at mark kind held)
-held_moved bytes mark kind held valid =
-    by_mark (kind.may_miss && bytes_eq held.text mark)
-    (ap some_number (sym (answer_moved kind.format kind.type bytes valid held))
-    ∙ number_moved bytes (field_answer kind.format kind.type held))
+value_moved : (bytes : ℕ) (has_quotes : Bool) (reading : Reading) (held : FieldView) → IsValid reading
+    → some_value (value_by has_quotes reading (moved bytes held))
+    ≡ answer_behind bytes (some_value (value_by has_quotes reading held))
+value_moved bytes has_quotes (Integers format type) held valid =
+    ap (λ answer. some_value (view_of Number answer)) (sym (answer_moved format type bytes valid held))
+    ∙ number_moved bytes (field_answer format type held)
+value_moved bytes has_quotes (FixedPoints fixed type) held valid =
+    ap (λ answer. some_value (view_of Number answer)) (sym (result_moved bytes held.start (complete_fixed fixed type held.text)))
+    ∙ number_moved bytes (fixed_answer fixed type held)
+value_moved bytes has_quotes Texts held valid = refl
+
+held_moved : (bytes : ℕ) (d : Dialect) (kind : Kind) (held : FieldView) → IsValid kind.reading
+    → value_at d kind (moved bytes held) ≡ answer_behind bytes (value_at d kind held)
+held_moved bytes d kind held valid =
+    by_mark (kind.may_miss && bytes_eq held.text d.missing.now) (value_moved bytes d.has_quotes kind.reading held valid)
   where
-    by_mark : (is_mark : Bool) → some_number (field_answer kind.format kind.type (moved bytes held))
-        ≡ answer_behind bytes (some_number (field_answer kind.format kind.type held))
-        → cond is_mark (Ok None) (some_number (field_answer kind.format kind.type (moved bytes held)))
-        ≡ answer_behind bytes (cond is_mark (Ok None) (some_number (field_answer kind.format kind.type held)))
+    by_mark : (is_mark : Bool) → some_value (value_by d.has_quotes kind.reading (moved bytes held))
+        ≡ answer_behind bytes (some_value (value_by d.has_quotes kind.reading held))
+        → cond is_mark (Ok None) (some_value (value_by d.has_quotes kind.reading (moved bytes held)))
+        ≡ answer_behind bytes (cond is_mark (Ok None) (some_value (value_by d.has_quotes kind.reading held)))
     by_mark true there = refl
     by_mark false there = there
 
@@ -154,11 +169,13 @@ cell_moved bytes d None cell valid =
     ap (λ found. unless found (Ok None)) (quotes_moved bytes d.has_quotes false cell)
     ∙ unless_moved bytes (quote_fault d.has_quotes false cell) (Ok None)
 cell_moved bytes d (Some kind) cell valid =
-    ap₂ unless (quotes_moved bytes d.has_quotes true cell)
-    (ap (number_at d.missing.now kind) (content_moved bytes d.has_quotes d.allows_blanks cell)
-    ∙ held_moved bytes d.missing.now kind (content d.has_quotes d.allows_blanks cell) valid.0)
-    ∙ unless_moved bytes (quote_fault d.has_quotes true cell)
-    (number_at d.missing.now kind (content d.has_quotes d.allows_blanks cell))
+    let is_number = not (keeps_texts kind.reading) in
+    let blanks = is_number && d.allows_blanks in
+    ap₂ unless (quotes_moved bytes d.has_quotes is_number cell)
+    (ap (value_at d kind) (content_moved bytes d.has_quotes blanks cell)
+    ∙ held_moved bytes d kind (content d.has_quotes blanks cell) valid.0)
+    ∙ unless_moved bytes (quote_fault d.has_quotes is_number cell)
+    (value_at d kind (content d.has_quotes blanks cell))
 
 answers_moved : (bytes : ℕ) (d : Dialect) (kinds : List (Option Kind)) (cells : List FieldView) → AreValid kinds
     → cell_answers d kinds (map (moved bytes) cells) ≡ map (answer_behind bytes) (cell_answers d kinds cells)
@@ -175,13 +192,14 @@ answers_moved bytes d (Some kind ∷ kinds) (cell ∷ cells) valid =
     ap₂ (λ a l. a ∷ l) (cell_moved bytes d (Some kind) cell (valid.0, tt))
     (answers_moved bytes d kinds cells valid.1)
 
-values_same : (bytes : ℕ) (answers : List (Result (Option ℤ) CellFault))
-    → columns.values_before_fault (map (answer_behind bytes) answers) ≡ columns.values_before_fault answers
-values_same bytes [] = refl
-values_same bytes (Ok value ∷ more) = ap (λ l. value ∷ l) (values_same bytes more)
-values_same bytes (Err fault ∷ more) = refl
+values_go : (bytes : ℕ) (answers : List (Result (Option Value) CellFault))
+    → columns.values_before_fault (map (answer_behind bytes) answers)
+    ≡ map (option_map (value_behind bytes)) (columns.values_before_fault answers)
+values_go bytes [] = refl
+values_go bytes (Ok value ∷ more) = ap (λ l. option_map (value_behind bytes) value ∷ l) (values_go bytes more)
+values_go bytes (Err fault ∷ more) = refl
 
-first_moved : (bytes : ℕ) (answers : List (Result (Option ℤ) CellFault))
+first_moved : (bytes : ℕ) (answers : List (Result (Option Value) CellFault))
     → columns.first_fault (map (answer_behind bytes) answers) ≡ option_map (fault_behind bytes) (columns.first_fault answers)
 first_moved bytes [] = refl
 first_moved bytes (Ok value ∷ more) = first_moved bytes more
@@ -271,15 +289,20 @@ module _ (kinds : List (Option Kind)) (d : Dialect) where
         ∙ ap (cell_answers d kinds) (take_map (moved bytes) (count_in d) (cells_of d row))
         ∙ answers_moved bytes d kinds (take (count_in d) (cells_of d row)) valid
 
-    pub row_values_moved : (bytes : ℕ) (row : RowView) → row_values kinds d (row_behind bytes row) ≡ row_values kinds d row
+    pub row_values_moved : (bytes : ℕ) (row : RowView) → row_values kinds d (row_behind bytes row)
+        ≡ map (option_map (value_behind bytes)) (row_values kinds d row)
     row_values_moved bytes row =
-        ap columns.values_before_fault (row_moved bytes row) ∙ values_same bytes (row_answers kinds d row)
+        ap columns.values_before_fault (row_moved bytes row) ∙ values_go bytes (row_answers kinds d row)
+
+    as_many : (bytes : ℕ) (row : RowView) → length (row_values kinds d (row_behind bytes row)) ≡ length (row_values kinds d row)
+    as_many bytes row =
+        ap length (row_values_moved bytes row) ∙ length-map (row_values kinds d row) (option_map (value_behind bytes))
 
     pub row_fault_moved : (before bytes index : ℕ) (row : RowView) → row_fault kinds d (before + index) (row_behind bytes row)
         ≡ option_map (error_behind before bytes) (row_fault kinds d index row)
     row_fault_moved before bytes index row =
         ap₂ (λ n e. fault_of d (before + index) (row_behind bytes row) n e)
-        (ap length (row_values_moved bytes row))
+        (as_many bytes row)
         (ap columns.first_fault (row_moved bytes row) ∙ first_moved bytes (row_answers kinds d row))
         ∙ by_error (length (row_values kinds d row)) (columns.first_fault (row_answers kinds d row))
       where
@@ -316,15 +339,23 @@ module _ (kinds : List (Option Kind)) (d : Dialect) where
         both (Some it) b = refl
 
     values_moved : (before bytes index : ℕ) (lines : List RowView)
-        → values_to_fault kinds d (before + index) (map (row_behind bytes) lines) ≡ values_to_fault kinds d index lines
+        → values_to_fault kinds d (before + index) (map (row_behind bytes) lines)
+        ≡ values_behind bytes (values_to_fault kinds d index lines)
     values_moved before bytes index [] = refl
     values_moved before bytes index (row ∷ more) =
         ap₂ (λ v l. v ∷ l) (row_values_moved bytes row)
         (ap₂ (λ e later. cond (is_none e) later []) (row_fault_moved before bytes index row)
         (ap (λ k. values_to_fault kinds d k (map (row_behind bytes) more)) (next before index)
         ∙ values_moved before bytes (index + 1) more)
-        ∙ ap (λ b. cond b (values_to_fault kinds d (index + 1) more) []) (none_moved (row_fault kinds d index row)))
+        ∙ ap (λ b. cond b (values_behind bytes (values_to_fault kinds d (index + 1) more)) [])
+        (none_moved (row_fault kinds d index row))
+        ∙ by_none (is_none (row_fault kinds d index row)))
       where
+        by_none : (b : Bool) → cond b (values_behind bytes (values_to_fault kinds d (index + 1) more)) []
+            ≡ values_behind bytes (cond b (values_to_fault kinds d (index + 1) more) [])
+        by_none true = refl
+        by_none false = refl
+
         next : (a b : ℕ) → a + b + 1 ≡ a + (b + 1)
         next a b = omega arith
 
@@ -350,7 +381,8 @@ columns_in_parts kinds d part more valid =
           ∙ values_append kinds d 0 (rows d front) (map (row_behind size) (rows d left))
           ∙ ap (λ l. values_in kinds d front ++ cond (is_none (fault_in kinds d front)) l [])
           (ap (λ k. values_to_fault kinds d k (map (row_behind size) (rows d left))) none
-          ∙ values_moved kinds d valid count size 0 (rows d left));
+          ∙ values_moved kinds d valid count size 0 (rows d left)
+          ∙ ap (λ n. values_behind n (values_in kinds d left)) long);
       fault =
           ap (first_fault kinds d 0) cut
           ∙ first_append kinds d 0 (rows d front) (map (row_behind size) (rows d left))

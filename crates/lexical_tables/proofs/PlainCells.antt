@@ -9,8 +9,9 @@ use Rattle.std.proofs.lemmas.List.Sums.{position_or_len_is}
 use Rattle.std.proofs.lemmas.Slice.Eq.{bytes_eq-Decides}
 use Rattle.lexical_util.specs.declared.error.Error.{Error}
 use Rattle.lexical_util.specs.Format.{Format}
-use Rattle.lexical_util.specs.Number.{IsNumber}
+use Rattle.lexical_util.specs.Number.{IntegerType, IsNumber}
 use Rattle.lexical_util.specs.Validity.{fault}
+use Rattle.lexical_parse_integer.specs.Answer.{view_of}
 use Rattle.lexical_parse_integer.specs.Plain.{IsPlain}
 use Rattle.lexical_parse_integer.specs.Value.{with_sign}
 use Rattle.lexical_fields.specs.Fields.{FieldView}
@@ -18,9 +19,10 @@ use Rattle.lexical_fields.specs.Numerals.{IsNumeral}
 use Rattle.lexical_fields.specs.ReadFields.{field_answer}
 use Rattle.lexical_fields.proofs.FieldAnswers.{answered}
 use Rattle.lexical_fields.proofs.Numerals.{numeral_complete, numeral_ends, numeral_without}
-use Rattle.lexical_tables.specs.Cells.{Kind, answer_as, begins_with_quote, content, ends_in_digit, fault_round_number, first_quote, misplaced_quote, number_at, quote_fault, some_number, unless, within_quotes}
+use Rattle.lexical_tables.specs.Cells.{Kind, answer_as, begins_with_quote, content, ends_in_digit, fault_round_number, first_quote, misplaced_quote, quote_fault, some_value, unless, value_at, within_quotes}
 use Rattle.lexical_tables.specs.Codes.{IsNumeralUnder}
 use Rattle.lexical_tables.specs.Quotes.{quote}
+use Rattle.lexical_tables.specs.Readings.{Integers, Number}
 use Rattle.lexical_tables.specs.declared.answers.CellFault.TheVariants.{MisplacedQuote}
 use Rattle.lexical_tables.specs.declared.dialect.Dialect.{Dialect}
 use Rattle.lexical_tables.proofs.Unquoted.{begins_unquoted, no_quote_fault, unquoted_fault}
@@ -45,18 +47,22 @@ none_of : (found : Option Error) → found ≡ None → IsNone found
 none_of None none = refl
 none_of (Some error) none = absurd cc
 
+-- a column of integers
+abbrev pub integers : Format → IntegerType → Bool → Kind
+integers format type may_miss = record { reading = Integers format type; may_miss = may_miss }
+
 -- a numeral is what its place stands for
-number_here : (mark : List ℕ) (kind : Kind) (held : FieldView) (is_negative : Bool) (number : ℕ)
-    → IsNumeralUnder kind.format is_negative number held.text → fault kind.format ≡ None → IsPlain kind.format
-    → kind.format.mantissa_radix ≡ 10 → IsNumber kind.type (with_sign is_negative number)
-    → (is_negative ≡ true → kind.type.is_signed ≡ true) → (kind.may_miss ≡ true → ends_in_digit mark ≡ false)
-    → number_at mark kind held ≡ Ok (Some (with_sign is_negative number))
-number_here mark kind held is_negative number n valid plain ten fits signed other =
-    ap (λ is_mark. cond is_mark (Ok None) (some_number (field_answer kind.format kind.type held)))
-    (not_mark kind.may_miss is_negative number held.text mark n.numeral other)
-    ∙ ap some_number (sym (answered kind.format kind.type held.start held.text (Ok (with_sign is_negative number))
-    (none_of (fault kind.format) valid) (sym (numeral_complete kind.format kind.type is_negative number held.text n.numeral
-    plain ten n.rule signed fits))))
+number_here : (d : Dialect) (format : Format) (type : IntegerType) (may_miss : Bool) (held : FieldView) (is_negative : Bool)
+    (number : ℕ) → IsNumeralUnder format is_negative number held.text → fault format ≡ None → IsPlain format
+    → format.mantissa_radix ≡ 10 → IsNumber type (with_sign is_negative number)
+    → (is_negative ≡ true → type.is_signed ≡ true) → (may_miss ≡ true → ends_in_digit d.missing.now ≡ false)
+    → value_at d (integers format type may_miss) held ≡ Ok (Some (Number (with_sign is_negative number)))
+number_here d format type may_miss held is_negative number n valid plain ten fits signed other =
+    ap (λ is_mark. cond is_mark (Ok None) (some_value (view_of Number (field_answer format type held))))
+    (not_mark may_miss is_negative number held.text d.missing.now n.numeral other)
+    ∙ ap (λ answer. some_value (view_of Number answer)) (sym (answered format type held.start held.text
+    (Ok (with_sign is_negative number)) (none_of (fault format) valid) (sym (numeral_complete format type is_negative
+    number held.text n.numeral plain ten n.rule signed fits))))
 
 -- no byte of a numeral is a quote
 unquoted : (is_negative : Bool) (number : ℕ) (text : List ℕ) → IsNumeral is_negative number text → (k : ℕ)
@@ -71,18 +77,19 @@ held_whole quotes blanks cell no_blanks unquoted =
     rw no_blanks (ap (λ t. cond t (within_quotes cell) cell) (and_right quotes (begins_with_quote cell.text) unquoted))
 
 -- a numeral alone
-pub plain_answer : (d : Dialect) (kind : Kind) (cell : FieldView) (is_negative : Bool) (number : ℕ)
-    → d.allows_blanks ≡ false → IsNumeralUnder kind.format is_negative number cell.text → fault kind.format ≡ None
-    → IsPlain kind.format → kind.format.mantissa_radix ≡ 10 → IsNumber kind.type (with_sign is_negative number) → (is_negative ≡ true → kind.type.is_signed ≡ true)
-    → (kind.may_miss ≡ true → ends_in_digit d.missing.now ≡ false)
-    → answer_as d (Some kind) cell ≡ Ok (Some (with_sign is_negative number))
-plain_answer d kind cell is_negative number no_blanks n valid plain ten fits signed other =
+pub plain_answer : (d : Dialect) (format : Format) (type : IntegerType) (may_miss : Bool) (cell : FieldView)
+    (is_negative : Bool) (number : ℕ) → d.allows_blanks ≡ false → IsNumeralUnder format is_negative number cell.text
+    → fault format ≡ None → IsPlain format → format.mantissa_radix ≡ 10 → IsNumber type (with_sign is_negative number)
+    → (is_negative ≡ true → type.is_signed ≡ true) → (may_miss ≡ true → ends_in_digit d.missing.now ≡ false)
+    → answer_as d (Some (integers format type may_miss)) cell ≡ Ok (Some (Number (with_sign is_negative number)))
+plain_answer d format type may_miss cell is_negative number no_blanks n valid plain ten fits signed other =
     let none = unquoted is_negative number cell.text n.numeral in
-    ap (λ found. unless found (number_at d.missing.now kind (content d.has_quotes d.allows_blanks cell)))
+    let kind = integers format type may_miss in
+    ap (λ found. unless found (value_at d kind (content d.has_quotes d.allows_blanks cell)))
     (sym (unquoted_fault d.has_quotes true cell none))
-    ∙ ap (number_at d.missing.now kind)
+    ∙ ap (value_at d kind)
     (held_whole d.has_quotes d.allows_blanks cell no_blanks (begins_unquoted cell.text none))
-    ∙ number_here d.missing.now kind cell is_negative number n valid plain ten fits signed other
+    ∙ number_here d format type may_miss cell is_negative number n valid plain ten fits signed other
 
 -- ---- within quotes
 
@@ -130,19 +137,20 @@ module _ (text : List ℕ) (two : 2 ≤ length text) (first : get_or text 0 0 �
       subst (λ k. IsNumeralUnder format is_negative number (take k (drop 1 text))) size n
 
 -- a numeral within quotes, where these have a meaning
-pub quoted_answer : (d : Dialect) (kind : Kind) (cell : FieldView) (is_negative : Bool) (number : ℕ)
+pub quoted_answer : (d : Dialect) (format : Format) (type : IntegerType) (may_miss : Bool) (cell : FieldView)
+    (is_negative : Bool) (number : ℕ)
     → d.allows_blanks ≡ false → d.has_quotes ≡ true → 2 ≤ length cell.text → get_or cell.text 0 0 ≡ quote
     → get_or cell.text (length cell.text - 1) 0 ≡ quote
-    → IsNumeralUnder kind.format is_negative number (take (length cell.text - 2) (drop 1 cell.text))
-    → fault kind.format ≡ None → IsPlain kind.format → kind.format.mantissa_radix ≡ 10 → IsNumber kind.type (with_sign is_negative number) → (is_negative ≡ true → kind.type.is_signed ≡ true)
-    → (kind.may_miss ≡ true → ends_in_digit d.missing.now ≡ false)
-    → answer_as d (Some kind) cell ≡ Ok (Some (with_sign is_negative number))
-quoted_answer d kind cell is_negative number no_blanks quotes two first last n valid plain ten fits signed other =
-    let mark = d.missing.now in
+    → IsNumeralUnder format is_negative number (take (length cell.text - 2) (drop 1 cell.text))
+    → fault format ≡ None → IsPlain format → format.mantissa_radix ≡ 10 → IsNumber type (with_sign is_negative number)
+    → (is_negative ≡ true → type.is_signed ≡ true) → (may_miss ≡ true → ends_in_digit d.missing.now ≡ false)
+    → answer_as d (Some (integers format type may_miss)) cell ≡ Ok (Some (Number (with_sign is_negative number)))
+quoted_answer d format type may_miss cell is_negative number no_blanks quotes two first last n valid plain ten fits signed other =
+    let kind = integers format type may_miss in
     let text = cell.text in
-    ap₂ (λ q b. unless (quote_fault q true cell) (number_at mark kind (content q b cell))) quotes no_blanks
+    ap₂ (λ q b. unless (quote_fault q true cell) (value_at d kind (content q b cell))) quotes no_blanks
     ∙ ap (λ found. unless (option_map (λ place. MisplacedQuote (cell.start + place)) found)
-    (number_at mark kind (content true false cell))) (none_misplaced text two first last is_negative number n.numeral)
-    ∙ ap (λ t. number_at mark kind (cond t (within_quotes cell) cell)) (begins text two first last)
-    ∙ number_here mark kind (within_quotes cell) is_negative number
-    (numeral_within text two first last kind.format is_negative number n) valid plain ten fits signed other
+    (value_at d kind (content true false cell))) (none_misplaced text two first last is_negative number n.numeral)
+    ∙ ap (λ t. value_at d kind (cond t (within_quotes cell) cell)) (begins text two first last)
+    ∙ number_here d format type may_miss (within_quotes cell) is_negative number
+    (numeral_within text two first last format is_negative number n) valid plain ten fits signed other

@@ -1,15 +1,16 @@
 -- Targets, with one number more.
-use Rattle.std.proofs.Common.{◌≡◌, ◌∙◌, ℕ, zero, suc, ◌<◌, ◌≤◌, List, [], ◌∷◌, ◌++◌, length, take, drop, set, get_or, ℤ, Result, Option, Some, None, Ok, Err, refl, Bool, ap, ap₂, sym, arith, length-set}
-use Rattle.std.specs.Prelude.{◌*◌, ◌/◌, ◌%◌, IfSome, is_some, option_map, pos, unwrap_or}
+use Rattle.std.proofs.Common.{◌≡◌, ◌∙◌, ℕ, zero, suc, ◌<◌, ◌≤◌, List, [], ◌∷◌, ◌++◌, length, take, drop, set, get_or, Result, Option, Some, None, Ok, Err, refl, Bool, ap, ap₂, sym, arith, length-set}
+use Rattle.std.specs.Prelude.{◌*◌, ◌/◌, ◌%◌, IfSome, is_some, option_map, unwrap_or}
 use Rattle.lexical_fields.specs.Fields.{FieldView}
 use Rattle.lexical_tables.specs.ByColumn.{AreUsable, IsUsable, answer_at, cell_answers, kind_of, kinds_of, put_read_at, put_read, put_row}
 use Rattle.lexical_tables.specs.Cells.{Kind, answer_as}
+use Rattle.lexical_tables.specs.Readings.{Value, blank}
 use Rattle.lexical_tables.specs.Targets.{TargetView, with_bit, with_row_bit}
 use Rattle.lexical_tables.specs.declared.answers.CellFault.{CellFault}
 use Rattle.lexical_tables.specs.declared.dialect.Dialect.{Dialect}
 
 -- a target that is set as the answer says
-pub set_as_put : (row column : ℕ) (answer : Result (Option ℤ) CellFault) (targets : List (Option TargetView))
+pub set_as_put : (row column : ℕ) (answer : Result (Option Value) CellFault) (targets : List (Option TargetView))
     (x d : Option TargetView) → column < length targets
     → option_map (put_read row answer) (get_or targets column d) ≡ x
     → set targets column x ≡ put_read_at row column answer targets
@@ -30,14 +31,14 @@ put_nothing row column fault [] = refl
 put_nothing row zero fault (t ∷ ts) = ap (λ x. x ∷ ts) (fault_puts row fault t)
 put_nothing row (suc column) fault (t ∷ ts) = ap (λ l. t ∷ l) (put_nothing row column fault ts)
 
-pub put_unread : (row column : ℕ) (answer : Result (Option ℤ) CellFault) (targets : List (Option TargetView))
+pub put_unread : (row column : ℕ) (answer : Result (Option Value) CellFault) (targets : List (Option TargetView))
     (d : Option TargetView) → column < length targets → get_or targets column d ≡ None
     → put_read_at row column answer targets ≡ targets
 put_unread row column answer [] d low is = refl
 put_unread row zero answer (t ∷ ts) d low is = ap (λ x. x ∷ ts) (ap (option_map (put_read row answer)) is ∙ sym is)
 put_unread row (suc column) answer (t ∷ ts) d low is = ap (λ l. t ∷ l) (put_unread row column answer ts d (omega arith) is)
 
-pub put_beyond : (row column : ℕ) (answer : Result (Option ℤ) CellFault) (targets : List (Option TargetView))
+pub put_beyond : (row column : ℕ) (answer : Result (Option Value) CellFault) (targets : List (Option TargetView))
     → length targets ≤ column → put_read_at row column answer targets ≡ targets
 put_beyond row column answer [] high = refl
 put_beyond row zero answer (t ∷ ts) high = absurd (omega arith)
@@ -72,7 +73,7 @@ there_still : (f : List ℕ → List ℕ) (present : Option (List ℕ)) → is_s
 there_still f None = refl
 there_still f (Some bytes) = refl
 
-same_kind : (row : ℕ) (answer : Result (Option ℤ) CellFault) (target : Option TargetView)
+same_kind : (row : ℕ) (answer : Result (Option Value) CellFault) (target : Option TargetView)
     → option_map kind_of (option_map (put_read row answer) target) ≡ option_map kind_of target
 same_kind row answer None = refl
 same_kind row (Err fault) (Some target) = refl
@@ -80,14 +81,14 @@ same_kind row (Ok value) (Some target) =
     ap (λ may. Some (record (kind_of target) { may_miss = may }))
     (there_still (with_row_bit row (is_some value)) target.present)
 
-pub kinds_put : (row column : ℕ) (answer : Result (Option ℤ) CellFault) (targets : List (Option TargetView))
+pub kinds_put : (row column : ℕ) (answer : Result (Option Value) CellFault) (targets : List (Option TargetView))
     → kinds_of (put_read_at row column answer targets) ≡ kinds_of targets
 kinds_put row column answer [] = refl
 kinds_put row zero answer (t ∷ ts) = ap (λ k. k ∷ kinds_of ts) (same_kind row answer t)
 kinds_put row (suc column) answer (t ∷ ts) =
     ap (λ l. option_map kind_of t ∷ l) (kinds_put row column answer ts)
 
-pub kinds_put_row : (row : ℕ) (values : List (Option ℤ)) (targets : List (Option TargetView))
+pub kinds_put_row : (row : ℕ) (values : List (Option Value)) (targets : List (Option TargetView))
     → kinds_of (put_row row values targets) ≡ kinds_of targets
 kinds_put_row row [] targets = refl
 kinds_put_row row (v ∷ vs) [] = refl
@@ -101,23 +102,23 @@ bits_stay room row is_there None enough = tt
 bits_stay room row is_there (Some bytes) enough =
     omega (arith, enough, length-set bytes (row / 8) (with_bit (row % 8) is_there (get_or bytes (row / 8) 0)))
 
-same_use : (room row : ℕ) (answer : Result (Option ℤ) CellFault) (target : Option TargetView) → IsUsable room target
+same_use : (room row : ℕ) (answer : Result (Option Value) CellFault) (target : Option TargetView) → IsUsable room target
     → IsUsable room (option_map (put_read row answer) target)
 same_use room row answer None usable = tt
 same_use room row (Err fault) (Some target) usable = usable
 same_use room row (Ok value) (Some target) usable = (
   usable.0,
-  omega (arith, usable.1, length-set target.numbers row (unwrap_or value (pos 0))),
+  omega (arith, usable.1, length-set target.values row (unwrap_or value (blank target.reading))),
   bits_stay room row (is_some value) target.present usable.2,
 )
 
-pub use_put : (room row column : ℕ) (answer : Result (Option ℤ) CellFault) (targets : List (Option TargetView))
+pub use_put : (room row column : ℕ) (answer : Result (Option Value) CellFault) (targets : List (Option TargetView))
     → AreUsable room targets → AreUsable room (put_read_at row column answer targets)
 use_put room row column answer [] usable = usable
 use_put room row zero answer (t ∷ ts) usable = (same_use room row answer t usable.0, usable.1)
 use_put room row (suc column) answer (t ∷ ts) usable = (usable.0, use_put room row column answer ts usable.1)
 
-pub use_put_row : (room row : ℕ) (values : List (Option ℤ)) (targets : List (Option TargetView)) → AreUsable room targets
+pub use_put_row : (room row : ℕ) (values : List (Option Value)) (targets : List (Option TargetView)) → AreUsable room targets
     → AreUsable room (put_row row values targets)
 use_put_row room row [] targets usable = usable
 use_put_row room row (v ∷ vs) [] usable = usable
@@ -147,11 +148,11 @@ use_at room zero (t ∷ ts) d low usable = usable.0
 use_at room (suc column) (t ∷ ts) d low usable = use_at room column ts d (omega arith) usable.1
 
 -- a row's number is put, and those behind it are left to put
-put_row_none : (row : ℕ) (values : List (Option ℤ)) → put_row row values [] ≡ []
+put_row_none : (row : ℕ) (values : List (Option Value)) → put_row row values [] ≡ []
 put_row_none row [] = refl
 put_row_none row (v ∷ vs) = refl
 
-pub row_goes : (row column : ℕ) (value : Option ℤ) (values : List (Option ℤ)) (targets : List (Option TargetView))
+pub row_goes : (row column : ℕ) (value : Option Value) (values : List (Option Value)) (targets : List (Option TargetView))
     → take column targets ++ put_row row (value ∷ values) (drop column targets)
     ≡ take (suc column) (put_read_at row column (Ok value) targets)
     ++ put_row row values (drop (suc column) (put_read_at row column (Ok value) targets))

@@ -6,7 +6,8 @@ use Rattle.std.proofs.lemmas.Bool.{cases_lt, eqb-true, le-ltb, lt-ltb}
 use Rattle.std.proofs.lemmas.List.FromFn.{length-range_with_len}
 use Rattle.std.proofs.lemmas.List.Sums.{count_by-le-length, sum_by-append}
 use Rattle.lexical_fields.specs.Fields.{FieldView}
-use Rattle.lexical_tables.specs.Cells.{Kind, answer_as, begins_with_quote, content, fault_round_number, fault_round_text, first_of, first_quote, is_in_place, misplaced_quote, number_at, quote_fault, unless}
+use Rattle.lexical_tables.specs.Readings.{Value, keeps_texts}
+use Rattle.lexical_tables.specs.Cells.{Kind, answer_as, begins_with_quote, content, fault_round_number, fault_round_text, first_of, first_quote, is_in_place, misplaced_quote, quote_fault, unless, value_at}
 use Rattle.lexical_tables.specs.Quotes.{has_odd_quotes, quote}
 use Rattle.lexical_tables.specs.declared.answers.CellFault.{CellFault}
 use Rattle.lexical_tables.specs.declared.answers.CellFault.TheVariants.{MisplacedQuote}
@@ -139,17 +140,23 @@ quotes_unread true cell fine =
     none_mapped None fine = refl
     none_mapped (Some place) fine = absurd cc
 
-unless_none : (f : Option CellFault) (answer : Result (Option ℤ) CellFault) (value : Option ℤ)
+unless_none : (f : Option CellFault) (answer : Result (Option Value) CellFault) (value : Option Value)
     → unless f answer ≡ Ok value → f ≡ None
 unless_none None answer value is = refl
 unless_none (Some fault) answer value is = absurd cc
 
 -- a cell that is right where it is read is so where it isn't
-pub unread_fine : (d : Dialect) (kind : Option Kind) (cell : FieldView) (value : Option ℤ)
+pub unread_fine : (d : Dialect) (kind : Option Kind) (cell : FieldView) (value : Option Value)
     → answer_as d kind cell ≡ Ok value → answer_as d None cell ≡ Ok None
 unread_fine d None cell value is =
     ap (λ f. unless f (Ok None)) (unless_none (quote_fault d.has_quotes false cell) (Ok None) value is)
 unread_fine d (Some kind) cell value is =
+    let is_number = not (keeps_texts kind.reading) in
     ap (λ f. unless f (Ok None))
-    (quotes_unread d.has_quotes cell (unless_none (quote_fault d.has_quotes true cell)
-    (number_at d.missing.now kind (content d.has_quotes d.allows_blanks cell)) value is))
+    (none_unread is_number (unless_none (quote_fault d.has_quotes is_number cell)
+    (value_at d kind (content d.has_quotes (is_number && d.allows_blanks) cell)) value is))
+  where
+    none_unread : (is_number : Bool) → quote_fault d.has_quotes is_number cell ≡ None
+        → quote_fault d.has_quotes false cell ≡ None
+    none_unread true fine = quotes_unread d.has_quotes cell fine
+    none_unread false fine = fine

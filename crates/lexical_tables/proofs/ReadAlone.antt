@@ -6,6 +6,7 @@ use Rattle.std.proofs.lemmas.Bool.{cases_lt, le-ltb, lt-ltb}
 use Rattle.std.proofs.lemmas.Option.{slice_get_past}
 use Rattle.lexical_fields.specs.Columns as columns
 use Rattle.lexical_fields.specs.Fields.{FieldView}
+use Rattle.lexical_tables.specs.Readings.{Value}
 use Rattle.lexical_tables.specs.ByColumn.{cells_of, columns_answer, columns_put, fault_of, first_fault, first_start, kinds_of, put_row, put_rows, row_answers, row_fault, row_values, values_to_fault}
 use Rattle.lexical_tables.specs.Cells.{Kind, first_of, unless}
 use Rattle.lexical_tables.specs.OneColumn.{IsReadAlone, cells_read, only}
@@ -86,11 +87,11 @@ module _ (d : Dialect) (column : ℕ) (kinds : List (Option Kind)) where
   abbrev Slot : Type 0
   Slot = Option (Option TargetView)
 
-  abbrev put_one : ℕ → Option (Option ℤ) → Slot → Slot
+  abbrev put_one : ℕ → Option (Option Value) → Slot → Slot
   put_one index None slot = slot
   put_one index (Some value) slot = option_map (option_map (put_value index value)) slot
 
-  abbrev put_column : ℕ → List (List (Option ℤ)) → Slot → Slot
+  abbrev put_column : ℕ → List (List (Option Value)) → Slot → Slot
   put_column index [] slot = slot
   put_column index (values ∷ more) slot = put_column (index + 1) more (put_one index (slice_get values column) slot)
 
@@ -172,7 +173,7 @@ module _ (d : Dialect) (column : ℕ) (kinds : List (Option Kind)) where
           (put_one index (slice_get (row_values kinds d row) column) slot)
           ≡ put_column index (values_to_fault alone d index (take n (row ∷ more))) slot
 
-      nothing_more : (t : Bool) → cond {A = List (List (Option ℤ))} t [] [] ≡ []
+      nothing_more : (t : Bool) → cond {A = List (List (Option Value))} t [] [] ≡ []
       nothing_more true = refl
       nothing_more false = refl
 
@@ -228,18 +229,18 @@ module _ (d : Dialect) (column : ℕ) (kinds : List (Option Kind)) where
 
   -- ---- in all targets
 
-  one_none : (index : ℕ) (value : Option (Option ℤ)) → put_one index value None ≡ None
+  one_none : (index : ℕ) (value : Option (Option Value)) → put_one index value None ≡ None
   one_none index None = refl
   one_none index (Some value) = refl
 
-  row_slot : (index : ℕ) (values : List (Option ℤ)) (targets : List (Option TargetView)) (at : ℕ)
+  row_slot : (index : ℕ) (values : List (Option Value)) (targets : List (Option TargetView)) (at : ℕ)
       → slice_get (put_row index values targets) at ≡ put_one index (slice_get values at) (slice_get targets at)
   row_slot index [] targets at = refl
   row_slot index (value ∷ values) [] at = sym (one_none index (slice_get (value ∷ values) at))
   row_slot index (value ∷ values) (target ∷ targets) zero = refl
   row_slot index (value ∷ values) (target ∷ targets) (suc at) = row_slot index values targets at
 
-  rows_slot : (index : ℕ) (values : List (List (Option ℤ))) (targets : List (Option TargetView))
+  rows_slot : (index : ℕ) (values : List (List (Option Value))) (targets : List (Option TargetView))
       → slice_get (put_rows index values targets) column ≡ put_column index values (slice_get targets column)
   rows_slot index [] targets = refl
   rows_slot index (values ∷ more) targets =

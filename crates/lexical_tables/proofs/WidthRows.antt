@@ -5,6 +5,7 @@ use Rattle.lexical_util.specs.declared.error.Error.TheVariants.{Empty, InvalidDi
 use Rattle.lexical_util.specs.Format.{standard}
 use Rattle.lexical_util.specs.Number.{integer_type}
 use Rattle.lexical_parse_integer.specs.Computed.{grammar}
+use Rattle.lexical_tables.specs.Readings.{Integers, Number}
 use Rattle.lexical_tables.specs.ByColumn.{columns_answer, columns_put, wrong_cell}
 use Rattle.lexical_tables.specs.Cells.{Kind}
 use Rattle.lexical_tables.specs.declared.answers.CellFault.TheVariants.{MisplacedQuote, MissingReturn, NotNumber, TooFewCells, TooManyCells}
@@ -19,8 +20,8 @@ wide widths = record (plain 0 false) { layout = Widths (record { ref_ptr = (0, 0
 -- two kinds whose numbers may be missing
 abbrev marked : List (Option Kind)
 marked =
-    Some (record { format = standard; type = integer_type 8 false; may_miss = true })
-    ∷ Some (record { format = standard; type = integer_type 8 false; may_miss = true }) ∷ []
+    Some (record { reading = Integers standard (integer_type 8 false); may_miss = true })
+    ∷ Some (record { reading = Integers standard (integer_type 8 false); may_miss = true }) ∷ []
 
 -- two of three bytes
 abbrev threes : Dialect

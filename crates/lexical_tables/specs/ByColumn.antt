@@ -1,10 +1,10 @@
 -- What is read of a table whose columns go into slices of their own.
-use Rattle.std.specs.Prelude.{◌≡◌, ◌==◌, ◌+◌, ◌*◌, ◌≤◌, ℕ, zero, suc, ℤ, Bool, false, if◌then◌else◌, List, [], ◌∷◌, length, take, drop, map, is_none, is_some, nat_lt, option_map, Option, Some, None, Result, Ok, Err, IfSome}
-use Rattle.lexical_util.specs.Validity.{fault}
+use Rattle.std.specs.Prelude.{◌≡◌, ◌==◌, ◌+◌, ◌*◌, ◌≤◌, ℕ, zero, suc, Bool, false, if◌then◌else◌, List, [], ◌∷◌, length, take, drop, map, is_none, is_some, nat_lt, option_map, Option, Some, None, Result, Ok, Err, IfSome}
 use Rattle.lexical_fields.specs.Columns as columns
 use Rattle.lexical_fields.specs.Fields.{FieldView}
 pub use Rattle.lexical_tables.specs.Cells.{Kind, answer_as, first_of, unless}
 use Rattle.lexical_tables.specs.Quotes.{pieces_outside}
+use Rattle.lexical_tables.specs.Readings.{IsValid, Value}
 use Rattle.lexical_tables.specs.Rows.{RowView, next_start, rows, rows_from}
 use Rattle.lexical_tables.specs.Targets.{TargetView, put_value}
 use Rattle.lexical_tables.specs.declared.answers.CellFault.{CellFault}
@@ -18,8 +18,7 @@ use Rattle.lexical_tables.specs.declared.dialect.Layout.TheVariants.{Records, Se
 -- what the column of a target is read as
 abbrev pub kind_of : TargetView → Kind
 kind_of target = record {
-  format = target.format;
-  type = target.type;
+  reading = target.reading;
   may_miss = is_some target.present;
 }
 
@@ -31,7 +30,7 @@ kinds_of targets = map (option_map kind_of) targets
 
 -- what the cells of a row stand for; those behind the last kind aren't read
 abbrev pub cell_answers : Dialect → List (Option Kind) → List FieldView
-    → List (Result (Option ℤ) CellFault)
+    → List (Result (Option Value) CellFault)
 cell_answers dialect kinds [] = []
 cell_answers dialect [] (cell ∷ cells) = answer_as dialect None cell ∷ cell_answers dialect [] cells
 cell_answers dialect (kind ∷ kinds) (cell ∷ cells) =
@@ -68,12 +67,12 @@ column_count (Records widths) = length widths.now
 
 -- what the cells of a row stand for that have a column
 abbrev pub row_answers : List (Option Kind) → Dialect → RowView
-    → List (Result (Option ℤ) CellFault)
+    → List (Result (Option Value) CellFault)
 row_answers kinds dialect row =
     cell_answers dialect kinds (take (column_count dialect.layout) (cells_of dialect row))
 
--- what is read of a row: a number or nothing for each cell, up to one that is no number
-abbrev pub row_values : List (Option Kind) → Dialect → RowView → List (Option ℤ)
+-- what is read of a row: a value or nothing for each cell, up to one at fault
+abbrev pub row_values : List (Option Kind) → Dialect → RowView → List (Option Value)
 row_values kinds dialect row = columns.values_before_fault (row_answers kinds dialect row)
 
 -- a fault of a cell
@@ -115,22 +114,22 @@ row_fault kinds dialect index row = fault_of dialect index row
 -- ---- targets
 
 -- targets with what is read of a row's cells at the row's place of each column
-abbrev pub put_row : ℕ → List (Option ℤ) → List (Option TargetView) → List (Option TargetView)
+abbrev pub put_row : ℕ → List (Option Value) → List (Option TargetView) → List (Option TargetView)
 put_row row [] targets = targets
 put_row row (value ∷ values) [] = []
 put_row row (value ∷ values) (target ∷ targets) =
     option_map (put_value row value) target ∷ put_row row values targets
 
 -- targets with what is read of rows, where these are counted from a number on
-abbrev pub put_rows : ℕ → List (List (Option ℤ)) → List (Option TargetView)
+abbrev pub put_rows : ℕ → List (List (Option Value)) → List (Option TargetView)
     → List (Option TargetView)
 put_rows row [] targets = targets
 put_rows row (values ∷ more) targets = put_rows (row + 1) more (put_row row values targets)
 
--- a target is usable if its format is valid, and its slice has room for so many numbers, and its bytes for so many bits
+-- a target is usable if its format is valid, and its slice has room for so many values, and its bytes for so many bits
 abbrev pub IsUsable : ℕ → Option TargetView → Type 0
 IsUsable room None = Unit {0}
-IsUsable room (Some target) = (fault target.format ≡ None) × (room ≤ length target.numbers)
+IsUsable room (Some target) = IsValid target.reading × (room ≤ length target.values)
     × IfSome target.present (λ bytes. room ≤ 8 * length bytes)
 
 -- each target is
@@ -141,7 +140,7 @@ AreUsable room (target ∷ targets) = IsUsable room target × AreUsable room tar
 -- ---- one cell of a row
 
 -- what the cell of a column stands for
-abbrev pub answer_at : Dialect → List (Option Kind) → ℕ → FieldView → Result (Option ℤ) CellFault
+abbrev pub answer_at : Dialect → List (Option Kind) → ℕ → FieldView → Result (Option Value) CellFault
 answer_at dialect [] column cell = answer_as dialect None cell
 answer_at dialect (kind ∷ kinds) zero cell = answer_as dialect kind cell
 answer_at dialect (kind ∷ kinds) (suc column) cell = answer_at dialect kinds column cell
@@ -164,17 +163,17 @@ separator_of (Widths widths) = None
 separator_of (Records widths) = None
 
 -- the fault of an answer
-abbrev pub fault_in : Result (Option ℤ) CellFault → Option CellFault
+abbrev pub fault_in : Result (Option Value) CellFault → Option CellFault
 fault_in (Ok value) = None
 fault_in (Err fault) = Some fault
 
 -- a target with what is answered of a cell at the row's place; a fault puts nothing
-abbrev pub put_read : ℕ → Result (Option ℤ) CellFault → TargetView → TargetView
+abbrev pub put_read : ℕ → Result (Option Value) CellFault → TargetView → TargetView
 put_read row (Ok value) target = put_value row value target
 put_read row (Err fault) target = target
 
 -- targets with what is answered of a cell at the row's place of a column
-abbrev pub put_read_at : ℕ → ℕ → Result (Option ℤ) CellFault → List (Option TargetView)
+abbrev pub put_read_at : ℕ → ℕ → Result (Option Value) CellFault → List (Option TargetView)
     → List (Option TargetView)
 put_read_at row column answer [] = []
 put_read_at row zero answer (target ∷ targets) = option_map (put_read row answer) target ∷ targets
@@ -185,7 +184,7 @@ put_read_at row (suc column) answer (target ∷ targets) =
 
 -- what is read of rows, up to the first wrong one
 abbrev pub values_to_fault : List (Option Kind) → Dialect → ℕ → List RowView
-    → List (List (Option ℤ))
+    → List (List (Option Value))
 values_to_fault kinds dialect index [] = []
 values_to_fault kinds dialect index (row ∷ more) = row_values kinds dialect row
     ∷ (if is_none (row_fault kinds dialect index row)

@@ -1,23 +1,20 @@
 -- What one cell of a row stands for.
-use Rattle.std.specs.Prelude.{◌==◌, ◌&&◌, ◌||◌, ◌+◌, ◌-◌, ℕ, ℤ, Bool, false, true, not, if◌then◌else◌, List, length, take, drop, is_some, nat_lt, option_map, position, slice_index, Option, Some, None, Result, Ok, Err}
+use Rattle.std.specs.Prelude.{◌==◌, ◌&&◌, ◌||◌, ◌+◌, ◌-◌, ℕ, Bool, false, true, not, if◌then◌else◌, List, length, take, drop, is_some, nat_lt, option_map, position, slice_index, Option, Some, None, Result, Ok, Err}
 use Rattle.std.specs.List.{prefix_len, range_with_len, suffix_len}
 use Rattle.std.specs.Str.{bytes_eq}
 use Rattle.lexical_util.specs.declared.error.Error.{Error}
 use Rattle.lexical_util.specs.Digit.{digit}
-use Rattle.lexical_util.specs.Format.{Format}
-use Rattle.lexical_util.specs.Number.{IntegerType}
 use Rattle.lexical_fields.specs.Fields.{FieldView}
-use Rattle.lexical_fields.specs.ReadFields.{field_answer}
 use Rattle.lexical_tables.specs.Quotes.{has_odd_quotes, quote}
+use Rattle.lexical_tables.specs.Readings.{Reading, Value, keeps_texts, value_by}
 use Rattle.lexical_tables.specs.declared.answers.CellFault.{CellFault}
 use Rattle.lexical_tables.specs.declared.answers.CellFault.TheVariants.{MisplacedQuote, NotNumber}
 use Rattle.lexical_tables.specs.declared.content.Cell.{Cell}
 use Rattle.lexical_tables.specs.declared.dialect.Dialect.{Dialect}
 
--- What a column's cells are read as, and whether a number may be missing there.
+-- What a column's cells are read as, and whether one may be missing there.
 pub record Kind : Type 0 where
-  pub format : Format
-  pub type : IntegerType
+  pub reading : Reading
   pub may_miss : Bool
 
 -- a cell as contracts see it
@@ -56,7 +53,7 @@ fault_round_number size (Some place) = if place + 2 == size then None else Some 
 abbrev pub is_in_place : List ℕ → ℕ → Bool
 is_in_place text place = has_odd_quotes (take place text) || (slice_index text place == quote)
 
--- The quote out of place in a text that begins with one, if nothing is read of it: the one in front of the first byte that
+-- The quote out of place in a text that begins with one, if no number is read of it: the one in front of the first byte that
 -- neither stands within quotes nor is one, or else the first, where their number is odd.
 abbrev pub fault_round_text : List ℕ → Option ℕ
 fault_round_text text = first_of
@@ -65,18 +62,18 @@ fault_round_text text = first_of
 
 -- the place of a text's first quote out of place, if there is one: a text that doesn't begin with a quote has none
 abbrev pub misplaced_quote : Bool → List ℕ → Option ℕ
-misplaced_quote is_read text =
+misplaced_quote is_number text =
     if begins_with_quote text
-    then (if is_read then fault_round_number (length text) (first_quote (drop 1 text))
+    then (if is_number then fault_round_number (length text) (first_quote (drop 1 text))
     else fault_round_text text)
     else first_quote text
 
 -- the fault of a cell's quotes, where these have a meaning
 abbrev pub quote_fault : Bool → Bool → FieldView → Option CellFault
-quote_fault has_quotes is_read cell =
+quote_fault has_quotes is_number cell =
     if has_quotes
     then option_map (λ place. MisplacedQuote (cell.start + place))
-    (misplaced_quote is_read cell.text)
+    (misplaced_quote is_number cell.text)
     else None
 
 -- ---- what a cell holds
@@ -116,22 +113,24 @@ ends_in_digit text = is_some (digit 10 (slice_index text (length text - 1)))
 
 -- ---- what it stands for
 
--- a number that is read
-abbrev pub some_number : Result ℤ Error → Result (Option ℤ) CellFault
-some_number (Ok number) = Ok (Some number)
-some_number (Err error) = Err (NotNumber error)
+-- a value that is read
+abbrev pub some_value : Result Value Error → Result (Option Value) CellFault
+some_value (Ok value) = Ok (Some value)
+some_value (Err error) = Err (NotNumber error)
 
--- what a text at its place stands for: nothing where it is the mark, byte for byte, and a number may be missing
-abbrev pub number_at : List ℕ → Kind → FieldView → Result (Option ℤ) CellFault
-number_at mark kind held =
-    if kind.may_miss && bytes_eq held.text mark
+-- what a text at its place stands for: nothing where it is the mark, byte for byte, and a value may be missing
+abbrev pub value_at : Dialect → Kind → FieldView → Result (Option Value) CellFault
+value_at dialect kind held =
+    if kind.may_miss && bytes_eq held.text dialect.missing.now
     then Ok None
-    else some_number (field_answer kind.format kind.type held)
+    else some_value (value_by dialect.has_quotes kind.reading held)
 
--- what a cell stands for in its column, if its quotes are in place: a number, or nothing where it isn't read or the
--- number is missing
-abbrev pub answer_as : Dialect → Option Kind → FieldView → Result (Option ℤ) CellFault
+-- What a cell stands for in its column, if its quotes are in place: a number, a text with its blanks, or nothing where it
+-- isn't read or is missing. Doubled quotes may stand in a text, as in a cell that isn't read.
+abbrev pub answer_as : Dialect → Option Kind → FieldView → Result (Option Value) CellFault
 answer_as dialect None cell = unless (quote_fault dialect.has_quotes false cell) (Ok None)
-answer_as dialect (Some kind) cell = unless (quote_fault dialect.has_quotes true cell)
-    (number_at dialect.missing.now kind
-    (content dialect.has_quotes dialect.allows_blanks cell))
+answer_as dialect (Some kind) cell =
+    let is_number = not (keeps_texts kind.reading) in
+    unless (quote_fault dialect.has_quotes is_number cell)
+    (value_at dialect kind
+    (content dialect.has_quotes (is_number && dialect.allows_blanks) cell))

@@ -2,7 +2,7 @@
 -- 0: nothing is known, and the column is asked at each cell. 1: its cells aren't read. 8 and more: they are read as decimal
 -- digits behind an optional minus are, whatever else the format allows, as numbers of u8, u16, u32, u64, i8, i16, i32 or i64
 -- in this order. 16 is added where a number may be missing, and 32 where no zero may stand in front of another digit.
-use Rattle.std.specs.Prelude.{◌≡◌, ◌-◌, ◌*◌, ◌%◌, ◌^◌, ◌<◌, ◌≤◌, ◌⊎◌, ℕ, Bool, false, true, IfSome, IsTrue, List, get_or, length, nat_le, slice_index, Option, Some, None, is_some, option_map}
+use Rattle.std.specs.Prelude.{◌≡◌, ◌-◌, ◌*◌, ◌%◌, ◌^◌, ◌<◌, ◌≤◌, ◌⊎◌, ℕ, Bool, false, true, IsTrue, List, get_or, length, nat_le, slice_index, Option, Some, None, is_some, option_map}
 use Rattle.lexical_util.specs.Format.{Format}
 use Rattle.lexical_util.specs.Number.{IntegerType, IsNumber, integer_type}
 use Rattle.lexical_parse_integer.specs.Plain.{IsPlain, keeps_zero_rule}
@@ -10,6 +10,7 @@ use Rattle.lexical_parse_integer.specs.Value.{with_sign}
 use Rattle.lexical_fields.specs.Numerals.{IsNumeral}
 use Rattle.lexical_tables.specs.Cells.{ends_in_digit}
 use Rattle.lexical_tables.specs.Quotes.{quote}
+use Rattle.lexical_tables.specs.Readings.{FixedPoints, Integers, Number, Reading, Texts}
 use Rattle.lexical_tables.specs.Targets.{TargetView, put_value}
 use Rattle.lexical_tables.specs.declared.dialect.Dialect.{Dialect}
 
@@ -36,11 +37,18 @@ has_coded_bits code = nat_le 16 (code % 32)
 abbrev pub has_zero_rule : ℕ → Bool
 has_zero_rule code = nat_le 32 code
 
+-- cells are read as integers of the type that a code says, and these are decimal
+abbrev pub AreCoded : ℕ → Reading → Type 0
+AreCoded code (Integers format type) =
+    IsDecimal format (has_zero_rule code) × (type ≡ coded_type code)
+AreCoded code (FixedPoints fixed type) = ⊥
+AreCoded code Texts = ⊥
+
 -- a column is read as a code says
 abbrev pub IsReadAs : ℕ → Option TargetView → Type 0
 IsReadAs code None = ⊥
-IsReadAs code (Some target) = IsDecimal target.format (has_zero_rule code)
-    × (target.type ≡ coded_type code) × (is_some target.present ≡ has_coded_bits code)
+IsReadAs code (Some target) =
+    AreCoded code target.reading × (is_some target.present ≡ has_coded_bits code)
 
 -- A code is right for a column.
 pub record IsCode (code : ℕ) (target : Option TargetView) : Type 0 where
@@ -71,11 +79,12 @@ pub record IsNumeralUnder (format : Format) (is_negative : Bool) (number : ℕ)
   pub numeral : IsNumeral is_negative number text
   pub rule : keeps_zero_rule format numeral.digits ≡ true
 
--- The number of a text of digits was put into a row's place, and the column's format and type have it.
-pub record IsNumberPut (row : ℕ) (text : List ℕ) (old new : Option TargetView) : Type 0 where
+-- The number of a text of digits was put into a row's place of a column with a code, whose format and type have it.
+pub record IsNumberPut (code row : ℕ) (text : List ℕ) (old new : Option TargetView) : Type 0 where
   pub is_negative : Bool
   pub number : ℕ
-  pub numeral : IfSome old (λ target. IsNumeralUnder target.format is_negative number text)
-  pub fits : IfSome old (λ target. IsNumber target.type (with_sign is_negative number))
-  pub minus : IsTrue is_negative → IfSome old (λ target. target.type.is_signed ≡ true)
-  pub put : new ≡ option_map (put_value row (Some (with_sign is_negative number))) old
+  pub numeral : (format : Format) → IsDecimal format (has_zero_rule code)
+      → IsNumeralUnder format is_negative number text
+  pub fits : IsNumber (coded_type code) (with_sign is_negative number)
+  pub minus : IsTrue is_negative → (coded_type code).is_signed ≡ true
+  pub put : new ≡ option_map (put_value row (Some (Number (with_sign is_negative number)))) old

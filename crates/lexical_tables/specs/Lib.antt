@@ -9,6 +9,7 @@ pub mod OneColumn
 pub mod Parts
 pub mod Places
 pub mod Quotes
+pub mod Readings
 pub mod RowSoFar
 pub mod Rows
 pub mod Skipping

@@ -1,10 +1,10 @@
 -- Texts that come in parts, as from a file that is read in blocks.
-use Rattle.std.specs.Prelude.{◌≡◌, ◌+◌, ◌-◌, ◌%◌, ℕ, ℤ, Bool, if◌then◌else◌, List, [], ◌∷◌, ◌++◌, length, take, drop, false, is_none, option_map, Option, Some, None}
-use Rattle.lexical_util.specs.Validity.{fault}
+use Rattle.std.specs.Prelude.{◌≡◌, ◌+◌, ◌-◌, ◌%◌, ℕ, Bool, if◌then◌else◌, List, [], ◌∷◌, ◌++◌, length, map, take, drop, false, is_none, option_map, Option, Some, None}
 use Rattle.lexical_fields.specs.Places.{error_in_text}
 use Rattle.lexical_tables.specs.ByColumn.{first_fault, first_of, values_to_fault, wrong_cell}
 use Rattle.lexical_tables.specs.Cells.{Kind}
 use Rattle.lexical_tables.specs.Quotes.{whole_outside}
+use Rattle.lexical_tables.specs.Readings.{IsValid, Number, Text, Value}
 use Rattle.lexical_tables.specs.Rows.{line_feed, record_size, rows}
 use Rattle.lexical_tables.specs.declared.answers.CellFault.{CellFault}
 use Rattle.lexical_tables.specs.declared.answers.CellFault.TheVariants.{MisplacedQuote, MissingReturn, NotNumber, TooFewCells, TooManyCells}
@@ -43,14 +43,23 @@ abbrev pub error_behind : ℕ → ℕ → TableError → TableError
 error_behind rows bytes error =
     wrong_cell (rows + error.row) error.column (fault_behind bytes error.fault)
 
+-- what a cell stands for that stands so many bytes further behind
+abbrev pub value_behind : ℕ → Value → Value
+value_behind bytes (Number number) = Number number
+value_behind bytes (Text text) = Text (record text { start = bytes + text.start })
+
+-- what is read of rows that stand so many bytes further behind
+abbrev pub values_behind : ℕ → List (List (Option Value)) → List (List (Option Value))
+values_behind bytes rows = map (map (option_map (value_behind bytes))) rows
+
 -- each column has a valid format
 abbrev pub AreValid : List (Option Kind) → Type 0
 AreValid [] = Unit {0}
 AreValid (None ∷ kinds) = AreValid kinds
-AreValid (Some kind ∷ kinds) = (fault kind.format ≡ None) × AreValid kinds
+AreValid (Some kind ∷ kinds) = IsValid kind.reading × AreValid kinds
 
 -- what is read of the rows of a text, up to the first fault
-abbrev pub values_in : List (Option Kind) → Dialect → List ℕ → List (List (Option ℤ))
+abbrev pub values_in : List (Option Kind) → Dialect → List ℕ → List (List (Option Value))
 values_in kinds dialect text = values_to_fault kinds dialect 0 (rows dialect text)
 
 -- the first fault in a text
@@ -66,7 +75,7 @@ pub record ColumnsInParts (kinds : List (Option Kind)) (dialect : Dialect)
       let left = drop (whole_rows dialect part) part ++ more in
       values_in kinds dialect (part ++ more) ≡ values_in kinds dialect front
       ++ (if is_none (fault_in kinds dialect front)
-      then values_in kinds dialect left else [])
+      then values_behind (length front) (values_in kinds dialect left) else [])
   pub fault : let front = readable false dialect part in
       let left = drop (whole_rows dialect part) part ++ more in
       fault_in kinds dialect (part ++ more) ≡ first_of (fault_in kinds dialect front)

@@ -1,10 +1,11 @@
 -- A row of which some cells were read.
-use Rattle.std.specs.Prelude.{◌≡◌, ◌≢◌, ◌+◌, ◌-◌, ◌<◌, ◌≤◌, ℕ, ℤ, true, List, ◌++◌, length, slice_index, take, drop, Option, Some, None, Result, Ok, Err}
+use Rattle.std.specs.Prelude.{◌≡◌, ◌≢◌, ◌+◌, ◌-◌, ◌<◌, ◌≤◌, ℕ, true, List, ◌++◌, length, slice_index, take, drop, Option, Some, None, Result, Ok, Err}
 use Rattle.lexical_fields.specs.Columns as columns
 use Rattle.lexical_fields.specs.Fields.{FieldView}
 use Rattle.lexical_tables.specs.ByColumn.{AreUsable, cell_answers, cells_left, cells_of, column_count, kinds_of, put_row, row_answers, row_fault, row_values, separator_of}
 use Rattle.lexical_tables.specs.Cells.{Kind}
 use Rattle.lexical_tables.specs.Quotes.{length_outside, quote}
+use Rattle.lexical_tables.specs.Readings.{Value}
 use Rattle.lexical_tables.specs.Rows.{RowView, carriage_return, line_feed}
 use Rattle.lexical_tables.specs.Targets.{TargetView}
 use Rattle.lexical_tables.specs.declared.answers.CellFault.{CellFault}
@@ -17,7 +18,7 @@ count_in dialect = column_count dialect.layout
 
 -- what those of the cells that are left stand for that have a column
 abbrev pub answers_left : List (Option Kind) → Dialect → ℕ → List FieldView
-    → List (Result (Option ℤ) CellFault)
+    → List (Result (Option Value) CellFault)
 answers_left kinds dialect column left =
     cell_answers dialect (drop column kinds) (take (count_in dialect - column) left)
 

@@ -1,9 +1,10 @@
 -- What is read of a table whose bad rows are skipped.
-use Rattle.std.specs.Prelude.{◌≡◌, ◌+◌, ◌<◌, ◌≤◌, ◌^◌, ℕ, ℤ, zero, suc, Bool, if◌then◌else◌, List, [], ◌∷◌, ◌++◌, false, length, take, drop, map, filter, is_none, option_map, slice_index, Option, Some, None, IfSome}
+use Rattle.std.specs.Prelude.{◌≡◌, ◌+◌, ◌<◌, ◌≤◌, ◌^◌, ℕ, zero, suc, Bool, if◌then◌else◌, List, [], ◌∷◌, ◌++◌, false, length, take, drop, map, filter, is_none, option_map, slice_index, Option, Some, None, IfSome}
 use Rattle.lexical_tables.specs.ByColumn.{kinds_of, put_row, put_rows, row_fault, row_values}
 use Rattle.lexical_tables.specs.Cells.{Kind}
-use Rattle.lexical_tables.specs.Parts.{error_behind, readable, whole_rows}
+use Rattle.lexical_tables.specs.Parts.{error_behind, readable, values_behind, whole_rows}
 use Rattle.lexical_tables.specs.Places.{place_of}
+use Rattle.lexical_tables.specs.Readings.{Value}
 use Rattle.lexical_tables.specs.Rows.{RowView, next_start, rows, rows_from}
 use Rattle.lexical_tables.specs.Targets.{TargetView, put_value}
 use Rattle.lexical_tables.specs.declared.answers.TableError.{TableError}
@@ -55,7 +56,7 @@ put_over kinds dialect count (row ∷ more) targets = put_over kinds dialect
     (put_row count (row_values kinds dialect row) targets)
 
 -- what is read of right rows alone
-abbrev pub right_values : List (Option Kind) → Dialect → List RowView → List (List (Option ℤ))
+abbrev pub right_values : List (Option Kind) → Dialect → List RowView → List (List (Option Value))
 right_values kinds dialect rows = map (row_values kinds dialect) (right_rows kinds dialect rows)
 
 -- the first of some values, as far as there is room, in place of those in front
@@ -107,7 +108,7 @@ pub record SkippingInParts (kinds : List (Option Kind)) (dialect : Dialect)
       let left = drop (whole_rows dialect part) part ++ more in
       right_values kinds dialect (rows dialect (part ++ more))
       ≡ right_values kinds dialect (rows dialect front)
-      ++ right_values kinds dialect (rows dialect left)
+      ++ values_behind (length front) (right_values kinds dialect (rows dialect left))
   pub faults : let front = readable false dialect part in
       let left = drop (whole_rows dialect part) part ++ more in
       faults_from kinds dialect 0 (rows dialect (part ++ more))
@@ -124,11 +125,11 @@ AreBytes (target ∷ targets) = IfSome target (λ column. IfSome column.present
     (λ bytes. (place : ℕ) → slice_index bytes place < 2 ^ 8)) × AreBytes targets
 
 -- what is read of the right rows of a text, of so many at most
-abbrev pub values_of_right : List (Option Kind) → Dialect → ℕ → List ℕ → List (List (Option ℤ))
+abbrev pub values_of_right : List (Option Kind) → Dialect → ℕ → List ℕ → List (List (Option Value))
 values_of_right kinds dialect room text =
     right_values kinds dialect (rows_read kinds dialect room text)
 
--- targets with 0 at a row's place of each column, and without the row's bit
+-- targets with a blank at a row's place of each column, and without the row's bit
 abbrev pub cleared_at : ℕ → List (Option TargetView) → List (Option TargetView)
 cleared_at row targets = map (option_map (put_value row None)) targets
 

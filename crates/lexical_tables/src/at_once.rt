@@ -6,7 +6,7 @@ ghost use Rattle.lexical_fields.specs.ReadFields.{field_answer};
 ghost use Rattle.lexical_tables.specs.ByColumn.{IsUsable};
 ghost use Rattle.lexical_tables.specs.Targets.{error_in, put_text, text_answer, text_fault, view_of_target, with_number};
 
-use crate::targets::{Numbers, Target};
+use crate::targets::Target;
 use lexical_fields::value_of_front;
 use lexical_parse_integer::NumberFormat;
 use lexical_parse_integer::parse::ParseInteger;
@@ -109,28 +109,18 @@ impl Target<'_> {
     #[inline(always)]
     fn put_number_at_once(&mut self, row: usize, ahead: &[u8], size: usize) -> bool
         requires valid { IsNone (fault self.old.format) }
-        requires room { row < length (view_of_target self.old).numbers }
+        requires room { row < length (view_of_target self.old).values }
         requires within { size ≤ length ahead.now }
         ensures fault { IsTrue result → (start : ℕ) → text_fault (Some (view_of_target self.old))
             (record { start = start; text = take size ahead.now }) ≡ None }
         ensures target { IsTrue result → (start : ℕ) → view_of_target self.new
             ≡ record (view_of_target self.old) {
-              numbers = with_number row (text_answer (view_of_target self.old)
+              values = with_number row (text_answer (view_of_target self.old)
                   (record { start = start; text = take size ahead.now }))
-                  (view_of_target self.old).numbers;
+                  (view_of_target self.old).values;
             } }
         ensures kept { result ≡ false → view_of_target self.new ≡ view_of_target self.old }
     {
-        let format = &self.format;
-        match &mut self.numbers {
-            Numbers::U8(values) => put_at_once::<u8>(values, row, ahead, size, format),
-            Numbers::U16(values) => put_at_once::<u16>(values, row, ahead, size, format),
-            Numbers::U32(values) => put_at_once::<u32>(values, row, ahead, size, format),
-            Numbers::U64(values) => put_at_once::<u64>(values, row, ahead, size, format),
-            Numbers::I8(values) => put_at_once::<i8>(values, row, ahead, size, format),
-            Numbers::I16(values) => put_at_once::<i16>(values, row, ahead, size, format),
-            Numbers::I32(values) => put_at_once::<i32>(values, row, ahead, size, format),
-            Numbers::I64(values) => put_at_once::<i64>(values, row, ahead, size, format),
-        }
+        self.numbers.put_at_once(row, ahead, size, &self.format)
     }
 }

@@ -10,7 +10,7 @@ ghost use Rattle.lexical_tables.specs.Targets.{TargetView, put_text, text_fault}
 
 use crate::answers::{CellFault, Table, TableError};
 use crate::cells::{column_count, lacks_cell, next_cell};
-use crate::content::{Cell, content};
+use crate::content::{Cell, content, text_of};
 use crate::dialect::Dialect;
 use crate::misplaced::quote_fault;
 use crate::pass::read_rows;
@@ -43,24 +43,24 @@ pub(crate) fn read_held<C: TableColumn>(
 #[inline(always)]
 fn cell_fault(
     dialect: &Dialect<'_>,
-    is_read: bool,
+    is_number: bool,
     has_no_quote: bool,
     cell: Cell<'_>,
 ) -> Option<CellFault>
     requires fits { cell.start + length cell.text.now < 2 ^ 64 }
     requires no_quote { IsTrue has_no_quote → (k : ℕ) → k < length cell.text.now
         → slice_index cell.text.now k ≢ quote }
-    ensures { result ≡ quote_fault dialect.now.has_quotes is_read (view_of_cell cell.entry) }
+    ensures { result ≡ quote_fault dialect.now.has_quotes is_number (view_of_cell cell.entry) }
 {
     if has_no_quote {
         return None;
     }
-    quote_fault(dialect.has_quotes, is_read, cell)
+    quote_fault(dialect.has_quotes, is_number, cell)
 }
 
-// Reads a cell in its column, if its quotes are in place: it holds the mark or a number, which goes to the row's place.
+// Reads a cell in its column, if its quotes are in place: it holds the mark, a number or a text, which goes to the row's place.
 #[inline(always)]
-fn read_number<C: TableColumn>(
+fn read_value<C: TableColumn>(
     target: &mut C,
     row: usize,
     cell: Cell<'_>,
@@ -80,12 +80,17 @@ fn read_number<C: TableColumn>(
         (option_map kind_of (C.target target.old)) (view_of_cell cell.entry)))
         (C.target target.old) }
 {
-    if let Some(fault) = cell_fault(dialect, true, has_no_quote, cell) {
+    let is_number = !target.is_text();
+    if let Some(fault) = cell_fault(dialect, is_number, has_no_quote, cell) {
         return Some(fault);
     }
-    let held = content(cell, dialect.has_quotes, dialect.allows_blanks);
+    let held = content(cell, dialect.has_quotes, is_number && dialect.allows_blanks);
     if target.may_miss() && held.text == dialect.missing {
         target.put_missing(row);
+        return None;
+    }
+    if !is_number {
+        target.put_text(row, text_of(held, dialect.has_quotes));
         return None;
     }
     match read_held(target, row, held, options) {
@@ -120,7 +125,7 @@ fn read_cell<C: TableColumn>(
         return cell_fault(dialect, false, has_no_quote, cell);
     }
     if targets[column].is_read() {
-        return read_number(
+        return read_value(
             &mut targets[column],
             row,
             cell,

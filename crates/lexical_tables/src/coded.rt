@@ -5,11 +5,12 @@ ghost use Rattle.lexical_digits.specs.Value.{with_sign};
 ghost use Rattle.lexical_util.specs.Number.{IsNumber};
 ghost use Rattle.lexical_tables.specs.ByColumn.{IsUsable};
 ghost use Rattle.lexical_tables.specs.Codes.{IsCode, coded_type};
+ghost use Rattle.lexical_tables.specs.Readings.{Number};
 ghost use Rattle.lexical_tables.specs.Targets.{put_value, type_of, view_of_target};
 
 use crate::codes::{self, WITH_BITS, under_format};
-use crate::column_integer::put_with_sign;
-use crate::targets::{Numbers, Target};
+use crate::numbers::Numbers;
+use crate::targets::Target;
 
 impl Numbers<'_> {
     // The code of a column of such numbers, of which none may be missing.
@@ -50,11 +51,12 @@ impl Target<'_> {
         requires usable { IsUsable (row + 1) (Some (view_of_target self.old)) }
         requires small { number < 2 ^ 63 }
         ensures fits { IsTrue result
-            → IsNumber (view_of_target self.old).type (with_sign is_negative number) }
+            → IsNumber (type_of self.old.numbers) (with_sign is_negative number) }
         ensures minus { IsTrue result → IsTrue is_negative
-            → (view_of_target self.old).type.is_signed ≡ true }
+            → (type_of self.old.numbers).is_signed ≡ true }
         ensures target { IsTrue result → view_of_target self.new
-            ≡ put_value row (Some (with_sign is_negative number)) (view_of_target self.old) }
+            ≡ put_value row (Some (Number (with_sign is_negative number)))
+            (view_of_target self.old) }
         ensures kept { result ≡ false → view_of_target self.new ≡ view_of_target self.old }
     {
         if !self.put_number(row, is_negative, number) {
@@ -67,27 +69,19 @@ impl Target<'_> {
     // Puts a number with its sign into a row's place, where the column's type has it, and tells whether it did.
     #[inline(always)]
     fn put_number(&mut self, row: usize, is_negative: bool, number: u64) -> bool
-        requires room { row < length (view_of_target self.old).numbers }
+        requires room { row < length (view_of_target self.old).values }
         requires small { number < 2 ^ 63 }
         ensures fits { IsTrue result
-            → IsNumber (view_of_target self.old).type (with_sign is_negative number) }
+            → IsNumber (type_of self.old.numbers) (with_sign is_negative number) }
         ensures minus { IsTrue result → IsTrue is_negative
-            → (view_of_target self.old).type.is_signed ≡ true }
+            → (type_of self.old.numbers).is_signed ≡ true }
         ensures target { IsTrue result → view_of_target self.new
             ≡ record (view_of_target self.old) {
-              numbers = set (view_of_target self.old).numbers row (with_sign is_negative number);
+              values = set (view_of_target self.old).values row
+                  (Number (with_sign is_negative number));
             } }
         ensures kept { result ≡ false → view_of_target self.new ≡ view_of_target self.old }
     {
-        match &mut self.numbers {
-            Numbers::U8(values) => put_with_sign::<u8>(values, row, is_negative, number),
-            Numbers::U16(values) => put_with_sign::<u16>(values, row, is_negative, number),
-            Numbers::U32(values) => put_with_sign::<u32>(values, row, is_negative, number),
-            Numbers::U64(values) => put_with_sign::<u64>(values, row, is_negative, number),
-            Numbers::I8(values) => put_with_sign::<i8>(values, row, is_negative, number),
-            Numbers::I16(values) => put_with_sign::<i16>(values, row, is_negative, number),
-            Numbers::I32(values) => put_with_sign::<i32>(values, row, is_negative, number),
-            Numbers::I64(values) => put_with_sign::<i64>(values, row, is_negative, number),
-        }
+        self.numbers.put_with_sign(row, is_negative, number)
     }
 }

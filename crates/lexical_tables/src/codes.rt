@@ -8,6 +8,7 @@
 ghost use Rattle.std.specs.Prelude.{◌≡◌, ◌<◌, ◌≤◌, Some, is_some, map};
 ghost use Rattle.lexical_tables.specs.Cells.{ends_in_digit};
 ghost use Rattle.lexical_tables.specs.Codes.{AreCodes, IsCode, IsCodeIn, coded_type, has_coded_bits};
+ghost use Rattle.lexical_tables.specs.Readings.{Integers};
 ghost use Rattle.lexical_tables.specs.Targets.{TargetView};
 
 use crate::dialect::Dialect;
@@ -58,7 +59,7 @@ pub const WITH_ZERO_RULE: u8 = 32;
 pub fn under_format(code: u8, format: &NumberFormat) -> u8
     requires read { 8 ≤ code }
     requires standard { code < 32 }
-    ensures { (target : TargetView) → target.format ≡ format.now → target.type ≡ coded_type code
+    ensures { (target : TargetView) → target.reading ≡ Integers format.now (coded_type code)
         → is_some target.present ≡ has_coded_bits code → IsCode result (Some target) }
 {
     if !is_separated(format, b' ') {

@@ -2,9 +2,12 @@
 
 ghost use Rattle.std.specs.Prelude.{◌≡◌, ◌+◌, ◌<◌, ◌≤◌, ◌^◌, length, take};
 ghost use Rattle.std.specs.List.{prefix_len, suffix_len};
+ghost use Rattle.lexical_tables.specs.Readings.{text_of};
+ghost use Rattle.lexical_tables.specs.Targets.{view_of_text};
 ghost use Rattle.lexical_tables.specs.Cells.{content, is_blank, view_of_cell, without_blanks, without_quotes};
 
-use crate::misplaced::begins_with_quote;
+use crate::cell_text::CellText;
+use crate::misplaced::{begins_with_quote, first_quote};
 
 // A cell, or what it holds: the place in the text at which that starts, its bytes, and what begins with them.
 #[derive(Copy, Clone)]
@@ -88,6 +91,17 @@ fn without_quotes(cell: Cell<'_>, has_quotes: bool) -> Cell<'_>
         };
     }
     cell
+}
+
+// What a cell holds, as a text, by where it stands.
+pub(crate) fn text_of(held: Cell<'_>, has_quotes: bool) -> CellText
+    ensures { view_of_text result ≡ text_of has_quotes (view_of_cell held.entry) }
+{
+    CellText {
+        start: held.start,
+        size: held.text.len(),
+        has_doubled_quotes: has_quotes && first_quote(held.text).is_some(),
+    }
 }
 
 // What a cell holds.

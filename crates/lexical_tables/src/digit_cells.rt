@@ -68,7 +68,7 @@ fn put_found<C: TableColumn>(
     requires writes { IfSome found (λ found. IsNumeral found.0 found.1 (take size ahead.now)) }
     requires small { IfSome found (λ found. found.1 < 2 ^ 63) }
     ensures put { IsTrue result
-        → IsNumberPut row (take size ahead.now) (C.target target.old) (C.target target.new) }
+        → IsNumberPut code row (take size ahead.now) (C.target target.old) (C.target target.new) }
     ensures kept { result ≡ false → C.target target.new ≡ C.target target.old }
 {
     let Some((is_negative, number)) = found else {

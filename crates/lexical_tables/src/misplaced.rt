@@ -18,7 +18,7 @@ pub(crate) fn begins_with_quote(text: &[u8]) -> bool
 
 // The place of a text's first quote.
 #[inline(always)]
-fn first_quote(text: &[u8]) -> Option<usize>
+pub(crate) fn first_quote(text: &[u8]) -> Option<usize>
     ensures place { result ≡ first_quote text.now }
     ensures within { IfSome result (λ place. place < length text.now) }
 {
@@ -81,13 +81,13 @@ fn fault_round_text(text: &[u8]) -> Option<usize>
 
 // The first quote out of place in a text.
 #[inline(always)]
-fn misplaced_quote(is_read: bool, text: &[u8]) -> Option<usize>
-    ensures place { result ≡ misplaced_quote is_read text.now }
+fn misplaced_quote(is_number: bool, text: &[u8]) -> Option<usize>
+    ensures place { result ≡ misplaced_quote is_number text.now }
     ensures within { IfSome result (λ place. place < length text.now) }
 {
     if !begins_with_quote(text) {
         first_quote(text)
-    } else if is_read {
+    } else if is_number {
         fault_round_number(text)
     } else {
         fault_round_text(text)
@@ -96,14 +96,14 @@ fn misplaced_quote(is_read: bool, text: &[u8]) -> Option<usize>
 
 // The fault of a cell's quotes, where these have a meaning.
 #[inline(always)]
-pub(crate) fn quote_fault(has_quotes: bool, is_read: bool, cell: Cell<'_>) -> Option<CellFault>
+pub(crate) fn quote_fault(has_quotes: bool, is_number: bool, cell: Cell<'_>) -> Option<CellFault>
     requires fits { cell.start + length cell.text.now < 2 ^ 64 }
-    ensures { result ≡ quote_fault has_quotes is_read (view_of_cell cell.entry) }
+    ensures { result ≡ quote_fault has_quotes is_number (view_of_cell cell.entry) }
 {
     if !has_quotes {
         return None;
     }
-    match misplaced_quote(is_read, cell.text) {
+    match misplaced_quote(is_number, cell.text) {
         Some(place) => Some(CellFault::MisplacedQuote(cell.start + place)),
         None => None,
     }

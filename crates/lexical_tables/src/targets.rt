@@ -7,35 +7,17 @@ ghost use Rattle.lexical_util.specs.Number.{IsNumber};
 ghost use Rattle.lexical_util.specs.Validity.{fault};
 ghost use Rattle.lexical_fields.specs.ReadFields.{field_answer};
 ghost use Rattle.lexical_tables.specs.ByColumn.{IsUsable};
-ghost use Rattle.lexical_tables.specs.Codes.{IsCode, IsReadAs};
-ghost use Rattle.lexical_tables.specs.Targets.{TargetView, error_in, has_bits, put_text, put_value, text_answer, text_fault, view_of_target, with_number, with_row_bit};
+ghost use Rattle.lexical_tables.specs.Codes.{IsCode, IsReadAs, coded_type};
+ghost use Rattle.lexical_tables.specs.Readings.{Number, Text};
+ghost use Rattle.lexical_tables.specs.Targets.{TargetView, error_in, has_bits, keeps_text, put_text, put_value, text_answer, text_fault, view_of_target, view_of_text, with_number, with_row_bit};
 
 use crate::at_once::put_at_once;
+use crate::cell_text::CellText;
 use crate::codes::{NOT_READ, UNKNOWN};
+use crate::numbers::Numbers;
 use crate::parsed::{put_parsed, put_standard_parsed};
 use lexical_parse_integer::parse::ParseInteger;
 use lexical_parse_integer::{Error, NumberFormat, Options, format};
-
-/// The slice that a column's numbers go to. It says their type.
-#[derive(Drop)]
-pub enum Numbers<'a> {
-    /// Numbers of 8 bits without a sign.
-    U8(&'a mut [u8]),
-    /// Numbers of 16 bits without a sign.
-    U16(&'a mut [u16]),
-    /// Numbers of 32 bits without a sign.
-    U32(&'a mut [u32]),
-    /// Numbers of 64 bits without a sign.
-    U64(&'a mut [u64]),
-    /// Numbers of 8 bits with a sign.
-    I8(&'a mut [i8]),
-    /// Numbers of 16 bits with a sign.
-    I16(&'a mut [i16]),
-    /// Numbers of 32 bits with a sign.
-    I32(&'a mut [i32]),
-    /// Numbers of 64 bits with a sign.
-    I64(&'a mut [i64]),
-}
 
 /// What is read of a column: numbers under a format, into a slice.
 #[derive(Drop)]
@@ -140,14 +122,25 @@ pub trait TableColumn {
     fn is_read(&self) -> bool
         ensures { result ≡ is_some (target self.now) };
 
-    /// Whether a number may be missing in it.
+    /// Whether its cells are texts, of which it keeps where they stand.
+    fn is_text(&self) -> bool
+        ensures { result ≡ keeps_text (target self.now) };
+
+    /// Whether a number, or a text, may be missing in it.
     fn may_miss(&self) -> bool
         ensures { result ≡ has_bits (target self.now) };
 
-    /// Puts 0 into a row's place, and clears the row's bit.
+    /// Puts 0, or a text of no bytes, into a row's place, and clears the row's bit.
     fn put_missing(&mut self, row: usize)
         requires usable { IsUsable (row + 1) (target self.old) }
         ensures { target self.new ≡ option_map (put_value row None) (target self.old) };
+
+    /// Puts where a text stands into a row's place, and sets the row's bit. It is for a column of texts.
+    fn put_text(&mut self, row: usize, text: CellText)
+        requires text { keeps_text (target self.old) ≡ true }
+        requires usable { IsUsable (row + 1) (target self.old) }
+        ensures { target self.new
+            ≡ option_map (put_value row (Some (Text (view_of_text text)))) (target self.old) };
 
     /// Puts the number that all of a text stands for into a row's place, and sets the row's bit, or tells the
     /// text's fault. What is ahead begins with the text.
@@ -227,12 +220,10 @@ pub trait TableColumn {
         requires read { 8 ≤ code }
         requires usable { IsUsable (row + 1) (target self.old) }
         requires small { number < 2 ^ 63 }
-        ensures fits { IsTrue result → IfSome (target self.old)
-            (λ target. IsNumber target.type (with_sign is_negative number)) }
-        ensures minus { IsTrue result → IsTrue is_negative → IfSome (target self.old)
-            (λ target. target.type.is_signed ≡ true) }
-        ensures target { IsTrue result → target self.new
-            ≡ option_map (put_value row (Some (with_sign is_negative number))) (target self.old) }
+        ensures fits { IsTrue result → IsNumber (coded_type code) (with_sign is_negative number) }
+        ensures minus { IsTrue result → IsTrue is_negative → (coded_type code).is_signed ≡ true }
+        ensures target { IsTrue result → target self.new ≡ option_map
+            (put_value row (Some (Number (with_sign is_negative number)))) (target self.old) }
         ensures kept { result ≡ false → target self.new ≡ target self.old }
     {
         false
@@ -248,11 +239,20 @@ impl TableColumn for Option<Target<'_>> {
     }
 
     #[inline(always)]
+    fn is_text(&self) -> bool {
+        false
+    }
+
+    #[inline(always)]
     fn may_miss(&self) -> bool {
         match self {
             Some(target) => target.present.is_some(),
             None => false,
         }
+    }
+
+    fn put_text(&mut self, row: usize, text: CellText) {
+        unreachable!()
     }
 
     fn put_missing(&mut self, row: usize) {
@@ -319,7 +319,7 @@ impl TableColumn for Option<Target<'_>> {
 
 impl Target<'_> {
     // Puts 0 into a row's place, and clears the row's bit.
-    fn put_missing(&mut self, row: usize)
+    pub(crate) fn put_missing(&mut self, row: usize)
         requires usable { IsUsable (row + 1) (Some (view_of_target self.old)) }
         ensures { view_of_target self.new ≡ put_value row None (view_of_target self.old) }
     {
@@ -329,21 +329,12 @@ impl Target<'_> {
 
     // Puts 0 into a row's place.
     fn put_zero(&mut self, row: usize)
-        requires room { row < length (view_of_target self.old).numbers }
+        requires room { row < length (view_of_target self.old).values }
         ensures { view_of_target self.new ≡ record (view_of_target self.old) {
-          numbers = set (view_of_target self.old).numbers row (pos 0);
+          values = set (view_of_target self.old).values row (Number (pos 0));
         } }
     {
-        match &mut self.numbers {
-            Numbers::U8(values) => put_zero::<u8>(values, row),
-            Numbers::U16(values) => put_zero::<u16>(values, row),
-            Numbers::U32(values) => put_zero::<u32>(values, row),
-            Numbers::U64(values) => put_zero::<u64>(values, row),
-            Numbers::I8(values) => put_zero::<i8>(values, row),
-            Numbers::I16(values) => put_zero::<i16>(values, row),
-            Numbers::I32(values) => put_zero::<i32>(values, row),
-            Numbers::I64(values) => put_zero::<i64>(values, row),
-        }
+        self.numbers.put_zero(row);
     }
 
     // Sets a row's bit, or clears it, if the column has bits.
@@ -362,7 +353,7 @@ impl Target<'_> {
 
     // Puts the number of a text that isn't had at once into a row's place, and sets the row's bit, or tells the text's fault.
     #[inline(always)]
-    fn read_left(&mut self, row: usize, start: usize, text: &[u8]) -> Option<Error>
+    pub(crate) fn read_left(&mut self, row: usize, start: usize, text: &[u8]) -> Option<Error>
         requires usable { IsUsable (row + 1) (Some (view_of_target self.old)) }
         requires fits { start + length text.now < 2 ^ 64 }
         ensures fault { result ≡ error_in (text_answer (view_of_target self.old)
@@ -381,25 +372,15 @@ impl Target<'_> {
     #[inline(always)]
     fn put_parsed_number(&mut self, row: usize, start: usize, text: &[u8]) -> Option<Error>
         requires valid { IsNone (fault self.old.format) }
-        requires room { row < length (view_of_target self.old).numbers }
+        requires room { row < length (view_of_target self.old).values }
         requires fits { start + length text.now < 2 ^ 64 }
         ensures fault { result ≡ error_in (text_answer (view_of_target self.old)
             (record { start = start; text = text.now })) }
         ensures target { view_of_target self.new ≡ record (view_of_target self.old) {
-          numbers = with_number row (text_answer (view_of_target self.old)
-              (record { start = start; text = text.now })) (view_of_target self.old).numbers;
+          values = with_number row (text_answer (view_of_target self.old)
+              (record { start = start; text = text.now })) (view_of_target self.old).values;
         } }
     {
-        let format = &self.format;
-        match &mut self.numbers {
-            Numbers::U8(values) => put_parsed::<u8>(values, row, start, text, format),
-            Numbers::U16(values) => put_parsed::<u16>(values, row, start, text, format),
-            Numbers::U32(values) => put_parsed::<u32>(values, row, start, text, format),
-            Numbers::U64(values) => put_parsed::<u64>(values, row, start, text, format),
-            Numbers::I8(values) => put_parsed::<i8>(values, row, start, text, format),
-            Numbers::I16(values) => put_parsed::<i16>(values, row, start, text, format),
-            Numbers::I32(values) => put_parsed::<i32>(values, row, start, text, format),
-            Numbers::I64(values) => put_parsed::<i64>(values, row, start, text, format),
-        }
+        self.numbers.put_parsed(row, start, text, &self.format)
     }
 }

@@ -5,7 +5,7 @@ use Rattle.std.proofs.lemmas.List.{map-append}
 use Rattle.std.proofs.lemmas.List.Elements.{filter-append}
 use Rattle.lexical_tables.specs.ByColumn.{row_fault, row_values}
 use Rattle.lexical_tables.specs.Cells.{Kind}
-use Rattle.lexical_tables.specs.Parts.{AreValid, error_behind, whole_rows}
+use Rattle.lexical_tables.specs.Parts.{AreValid, error_behind, values_behind, whole_rows}
 use Rattle.lexical_tables.specs.Rows.{RowView, rows}
 use Rattle.lexical_tables.specs.Skipping.{SkippingInParts, faults_from, is_right, right_rows, right_values, with_first}
 use Rattle.lexical_tables.specs.declared.answers.TableError.{TableError}
@@ -41,17 +41,18 @@ module _ (kinds : List (Option Kind)) (d : Dialect) where
         ∙ none_moved (error_behind 0 bytes) (row_fault kinds d 0 row)
 
     values_moved : (bytes : ℕ) (lines : List RowView)
-        → right_values kinds d (map (row_behind bytes) lines) ≡ right_values kinds d lines
+        → right_values kinds d (map (row_behind bytes) lines) ≡ values_behind bytes (right_values kinds d lines)
     values_moved bytes [] = refl
     values_moved bytes (row ∷ more) =
         ap (λ t. map (row_values kinds d) (cond t (row_behind bytes row ∷ right_rows kinds d (map (row_behind bytes) more))
         (right_rows kinds d (map (row_behind bytes) more)))) (right_moved bytes row)
         ∙ by_test (is_right kinds d row) (values_moved bytes more)
       where
-        by_test : (t : Bool) → right_values kinds d (map (row_behind bytes) more) ≡ right_values kinds d more
+        by_test : (t : Bool)
+            → right_values kinds d (map (row_behind bytes) more) ≡ values_behind bytes (right_values kinds d more)
             → map (row_values kinds d) (cond t (row_behind bytes row ∷ right_rows kinds d (map (row_behind bytes) more))
             (right_rows kinds d (map (row_behind bytes) more)))
-            ≡ map (row_values kinds d) (cond t (row ∷ right_rows kinds d more) (right_rows kinds d more))
+            ≡ values_behind bytes (map (row_values kinds d) (cond t (row ∷ right_rows kinds d more) (right_rows kinds d more)))
         by_test true there = ap₂ (λ v l. v ∷ l) (row_values_moved kinds d valid bytes row) there
         by_test false there = there
 
@@ -90,7 +91,8 @@ skipping_in_parts kinds d part more valid =
           ∙ ap (map (row_values kinds d))
           (filter-append (is_right kinds d) (rows d front) (map (row_behind size) (rows d left)))
           ∙ map-append (row_values kinds d) (right_rows kinds d (rows d front)) (right_rows kinds d (map (row_behind size) (rows d left)))
-          ∙ ap (λ l. right_values kinds d (rows d front) ++ l) (values_moved kinds d valid size (rows d left));
+          ∙ ap (λ l. right_values kinds d (rows d front) ++ l) (values_moved kinds d valid size (rows d left)
+          ∙ ap (λ n. values_behind n (right_values kinds d (rows d left))) long);
       faults =
           ap (faults_from kinds d 0) cut
           ∙ faults_append kinds d 0 (rows d front) (map (row_behind size) (rows d left))

@@ -1,6 +1,6 @@
 -- What is put at a row's place of targets over what was put there before.
 use Rattle.std.proofs.Common.{◌≡◌, ◌∙◌, ℕ, zero, suc, ◌+◌, ◌-◌, ◌<◌, ◌≤◌, List, [], ◌∷◌, length, set, get_or, ℤ, ◌≢◌, eqb, Bool, true, false, Option, Some, None, ◌⊎◌, refl, ap, ap₂, arith, inl, inr}
-use Rattle.std.specs.Prelude.{◌/◌, ◌%◌, ◌^◌, IfSome, is_some, option_map, pos, unwrap_or}
+use Rattle.std.specs.Prelude.{◌/◌, ◌%◌, ◌^◌, IfSome, is_some, option_map, unwrap_or}
 use Rattle.std.specs.Int.{bit_not, w8}
 use Rattle.std.specs.Int.Bits.{and_self, and_zero_r, bit_and, bit_or, or_add_and}
 use Rattle.std.proofs.lemmas.Bool.{cases_lt}
@@ -9,6 +9,7 @@ use Rattle.std.proofs.lemmas.List.{get_or-set_other, get_or-set_same, set-set, s
 use Rattle.std.proofs.lemmas.Nat.{and-not, and_assoc, and_comm, and_le_l, and_or_apart, and_or_self, or_lt}
 use Rattle.lexical_tables.specs.ByColumn.{put_row}
 use Rattle.lexical_tables.specs.Skipping.{AreBytes, cleared_at}
+use Rattle.lexical_tables.specs.Readings.{Value, blank}
 use Rattle.lexical_tables.specs.Targets.{TargetView, put_value, with_bit, with_row_bit}
 
 -- ---- bits
@@ -113,21 +114,21 @@ small_present row is_there (Some bytes) small = small_row_bit row is_there bytes
 abbrev HasBytes : Option TargetView → Type 0
 HasBytes target = IfSome target (λ column. IfSome column.present SmallBytes)
 
-over_value : (row : ℕ) (now before : Option ℤ) (target : Option TargetView) → HasBytes target
+over_value : (row : ℕ) (now before : Option Value) (target : Option TargetView) → HasBytes target
     → option_map (put_value row now) (option_map (put_value row before) target) ≡ option_map (put_value row now) target
 over_value row now before None small = refl
 over_value row now before (Some target) small =
-    ap₂ (λ numbers present. Some (record target { numbers = numbers; present = present }))
-    (set-set target.numbers row (unwrap_or before (pos 0)) (unwrap_or now (pos 0)))
+    ap₂ (λ values present. Some (record target { values = values; present = present }))
+    (set-set target.values row (unwrap_or before (blank target.reading)) (unwrap_or now (blank target.reading)))
     (over_present row (is_some now) (is_some before) target.present small)
 
-small_value : (row : ℕ) (value : Option ℤ) (target : Option TargetView) → HasBytes target
+small_value : (row : ℕ) (value : Option Value) (target : Option TargetView) → HasBytes target
     → HasBytes (option_map (put_value row value) target)
 small_value row value None small = tt
 small_value row value (Some target) small = small_present row (is_some value) target.present small
 
 -- a row's numbers over those of a row with no more of them
-pub over_row : (row : ℕ) (now before : List (Option ℤ)) (targets : List (Option TargetView))
+pub over_row : (row : ℕ) (now before : List (Option Value)) (targets : List (Option TargetView))
     → length before ≤ length now → AreBytes targets
     → put_row row now (put_row row before targets) ≡ put_row row now targets
 over_row row now [] targets low small = refl
@@ -136,14 +137,14 @@ over_row row (n ∷ ns) (v ∷ vs) [] low small = refl
 over_row row (n ∷ ns) (v ∷ vs) (t ∷ ts) low small =
     ap₂ (λ x l. x ∷ l) (over_value row n v t small.0) (over_row row ns vs ts (omega arith) small.1)
 
-pub over_cleared : (row : ℕ) (values : List (Option ℤ)) (targets : List (Option TargetView)) → AreBytes targets
+pub over_cleared : (row : ℕ) (values : List (Option Value)) (targets : List (Option TargetView)) → AreBytes targets
     → cleared_at row (put_row row values targets) ≡ cleared_at row targets
 over_cleared row [] targets small = refl
 over_cleared row (v ∷ vs) [] small = refl
 over_cleared row (v ∷ vs) (t ∷ ts) small =
     ap₂ (λ x l. x ∷ l) (over_value row None v t small.0) (over_cleared row vs ts small.1)
 
-pub small_put_row : (row : ℕ) (values : List (Option ℤ)) (targets : List (Option TargetView)) → AreBytes targets
+pub small_put_row : (row : ℕ) (values : List (Option Value)) (targets : List (Option TargetView)) → AreBytes targets
     → AreBytes (put_row row values targets)
 small_put_row row [] targets small = small
 small_put_row row (v ∷ vs) [] small = tt

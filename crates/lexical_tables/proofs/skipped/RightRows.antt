@@ -5,6 +5,7 @@ use Rattle.std.proofs.lemmas.Bool.{cases_lt, lt-ltb}
 use Rattle.std.proofs.lemmas.List.{length-take}
 use Rattle.lexical_fields.specs.Columns as columns
 use Rattle.lexical_fields.specs.Fields.{FieldView}
+use Rattle.lexical_tables.specs.Readings.{Value}
 use Rattle.lexical_tables.specs.ByColumn.{cell_answers, cells_of, column_count, end_fault, fault_of, first_start, put_row, put_rows, row_answers, row_fault, row_values, wrong_cell}
 use Rattle.lexical_tables.specs.Cells.{Kind}
 use Rattle.lexical_tables.specs.Rows.{RowView}
@@ -136,7 +137,7 @@ module _ (kinds : List (Option Kind)) (d : Dialect) (row : RowView) where
 
 -- What bad rows left at a row's place counts for nothing, once a right row is put there, or the place is cleared.
 pub record CountsFor (d : Dialect) (row : ℕ) (over under : List (Option TargetView)) : Type 0 where
-  pub same_put : (values : List (Option ℤ)) → length values ≡ column_count d.layout
+  pub same_put : (values : List (Option Value)) → length values ≡ column_count d.layout
       → put_row row values over ≡ put_row row values under
   pub same_cleared : cleared_at row over ≡ cleared_at row under
 
@@ -153,7 +154,7 @@ counts_over kinds d place row over under same small = record {
 }
 
 module _ (kinds : List (Option Kind)) (d : Dialect) where
-  abbrev values_of : RowView → List (Option ℤ)
+  abbrev values_of : RowView → List (Option Value)
   values_of row = row_values kinds d row
 
   pub hold_right : (rows : List RowView) (count end : ℕ) (over under : List (Option TargetView)) → CountsFor d count over under

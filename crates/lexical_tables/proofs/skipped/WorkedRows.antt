@@ -8,6 +8,7 @@ use Rattle.lexical_parse_integer.specs.Computed.{grammar}
 use Rattle.lexical_tables.specs.ByColumn.{kinds_of, put_rows, wrong_cell}
 use Rattle.lexical_tables.specs.Parts.{readable}
 use Rattle.lexical_tables.specs.Places.{row_place}
+use Rattle.lexical_tables.specs.Readings.{Integers, Number}
 use Rattle.lexical_tables.specs.Skipping.{cleared_at, put_in_front, right_values, rows_read, skipped_rows, skipping_answer, skipping_put}
 use Rattle.lexical_tables.specs.Targets.{TargetView}
 use Rattle.lexical_tables.specs.declared.answers.CellFault.{CellFault}
@@ -30,18 +31,16 @@ skips_empty = record pairs { skips_empty_rows = true }
 -- two columns of `u8` with three places each; those of the second may miss a number
 abbrev two : List ℤ → List ℤ → List ℕ → List (Option TargetView)
 two first second bits = Some (record {
-  format = standard;
-  type = integer_type 8 false;
+  reading = Integers standard (integer_type 8 false);
   slice = record { at = (8, 0); name = 1 };
-  numbers = first;
+  values = map Number first;
   bits = None;
   present = None;
 })
     ∷ Some (record {
-      format = standard;
-      type = integer_type 8 false;
+      reading = Integers standard (integer_type 8 false);
       slice = record { at = (9, 0); name = 2 };
-      numbers = second;
+      values = map Number second;
       bits = Some (record { at = (10, 0); name = 3 });
       present = Some bits;
     }) ∷ []

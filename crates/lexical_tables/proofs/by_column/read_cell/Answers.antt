@@ -6,8 +6,8 @@ use Rattle.lexical_tables.specs.Cells.{view_of_cell}
 use Rattle.lexical_tables.proofs.CellSteps.{answer_told, beyond_fault, beyond_same, targets_told, unread_fault, unread_same, usable_at}
 use Rattle.lexical_tables.proofs.by_column.read_cell.Goals as goal
 
-pub read_number-requires-clause-usable : goal.read_number-requires-clause-usable
-read_number-requires-clause-usable g c =
+pub read_value-requires-clause-usable : goal.read_value-requires-clause-usable
+read_value-requires-clause-usable g c =
     let low : c.args.column < length c.args.targets.now = grind (arith, nat_tests) in
     usable_at g.C.TableColumn.target c.args.dialect.now c.args.targets.now c.args.column (view_of_cell c.args.cell) low _
     (c.args.row + 1) c.requires.usable
@@ -28,11 +28,11 @@ returns-then-is_read g c =
     let low : c.args.column < length c.args.targets.now = grind (arith, nat_tests) in
     record {
       fault =
-          c.read_number.ensures.fault
+          c.read_value.ensures.fault
           ∙ ap fault_in (answer_told g.C.TableColumn.target c.args.dialect.now c.args.targets.now c.args.column
           (view_of_cell c.args.cell) low _);
       targets = targets_told g.C.TableColumn.target c.args.dialect.now c.args.targets.now c.args.column
-          (view_of_cell c.args.cell) low _ c.args.row c.read_number.new.target c.read_number.ensures.target;
+          (view_of_cell c.args.cell) low _ c.args.row c.read_value.new.target c.read_value.ensures.target;
     }
 
 pub returns : goal.returns

@@ -1,0 +1,12 @@
+use Rattle.std.proofs.Common.{pos}
+use Rattle.lexical_tables.specs.Readings.{Integers}
+use Rattle.lexical_tables.specs.Targets.{view_of_target}
+use Rattle.lexical_tables.proofs.NumbersPut.{set_in}
+use Rattle.lexical_tables.proofs.targets.Target.put_zero.Goals as goal
+
+pub returns : goal.returns
+returns c =
+    let before = view_of_target c.args.self.now in
+    let put = c.put_zero.ensures in
+    set_in (Integers c.args.self.now.format) before.bits before.present c.args.self.now.numbers c.put_zero.new.self
+    put.same_type put.same_slice c.args.row (pos 0) put.numbers
