@@ -1,6 +1,7 @@
 -- The proofs beside the functions, a file for each idea.
 pub mod ColumnArrays
 pub mod ColumnCodes
+pub mod ColumnNumbers
 pub mod ColumnRows
 pub mod RowPlaces
 pub mod SureAnswers

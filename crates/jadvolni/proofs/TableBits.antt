@@ -1,17 +1,15 @@
 -- Columns with bits that say where a number is missing.
 use Rattle.std.proofs.Common.{◌≡◌, ◌*◌, ◌/◌, ◌≤◌, ◌∙◌, ℕ, Bool, true, false, cond, List, length, map, nat_eq, Option, Some, None, Result, Ok, Err, refl, ap, sym, subst, arith, length-set}
 use Rattle.std.specs.Prelude.{IfSome, is_some, option_map}
-use Rattle.std.proofs.Math.IntN.{ℤ, pos}
+use Rattle.std.proofs.lemmas.Bool.{false≢true}
 use Rattle.lexical_util.specs.declared.error.Error.{Error}
 use Rattle.lexical_fields.specs.Fields.{FieldView}
 use Rattle.lexical_tables.specs.ByColumn.{IsUsable}
-use Rattle.lexical_tables.specs.Targets.{Slice, TargetView, slice_of, error_in, has_bits, put_answer, put_text, put_value, text_answer, text_fault, with_number, with_row_bit}
-use Rattle.lexical_util.specs.Number.{IntegerType}
-use Rattle.jadvolni.specs.Effect.{signed, unsigned}
-use Rattle.jadvolni.specs.Tables.{bits_of, number_type, put_number, put_presence, put_zero, target_as, target_of, target_with}
+use Rattle.lexical_tables.specs.Targets.{Slice, TargetView, slice_of, error_in, has_bits, keeps_text, put_answer, put_text, put_value, text_answer, text_fault, with_number, with_row_bit}
+use Rattle.lexical_tables.specs.Readings.{FixedPoints, Integers, Number, Reading, Text, TextView, Texts, Value, answer_by, blank, keeps_texts, text_of}
+use Rattle.jadvolni.specs.Arrays.{ArrayView, array_in}
+use Rattle.jadvolni.specs.Tables.{bits_of, put_number, put_place, put_presence, put_zero, reading_of, target_as, target_by, target_of, text_view}
 use Rattle.jadvolni.specs.declared.table_columns.ColumnFields.{ColumnFields}
-use Rattle.jadvolni.specs.declared.table_columns.NumberType.{NumberType}
-use Rattle.jadvolni.specs.declared.table_columns.NumberType.TheVariants.{I16, I32, I64, I8, U16, U32, U64, U8}
 
 -- bytes keep their number, and so bits stay bits
 length_bit : (row : ℕ) (is_there : Bool) (bytes : List ℕ) → length (with_row_bit row is_there bytes) ≡ length bytes
@@ -59,44 +57,47 @@ there room true bytes is enough = absurd cc
 there room false bytes is enough = enough
 
 module _ (room : ℕ) (column : ColumnFields) where
-  in_target : (type : IntegerType) (slice : Slice) (numbers : List ℤ) → has_bits (target_with column type slice numbers) ≡ true
-      → IsUsable room (target_with column type slice numbers) → room ≤ 8 * length column.present.now
-  in_target type slice numbers is usable =
+  in_target : (reading : Reading) (slice : Slice) (values : List Value)
+      → is_some (target_by column reading slice values).present ≡ true
+      → IsUsable room (Some (target_by column reading slice values)) → room ≤ 8 * length column.present.now
+  in_target reading slice values is usable =
       there room (nat_eq (length column.present.now) 0) column.present.now is usable.2
 
-  room_as : (type : Option NumberType) → has_bits (target_as column type) ≡ true
-      → IsUsable room (target_as column type) → room ≤ 8 * length column.present.now
-  room_as None is usable = absurd cc
-  room_as (Some U8) is usable = in_target (unsigned 8) (slice_of column.u8s) (map pos column.u8s.now) is usable
-  room_as (Some U16) is usable = in_target (unsigned 16) (slice_of column.u16s) (map pos column.u16s.now) is usable
-  room_as (Some U32) is usable = in_target (unsigned 32) (slice_of column.u32s) (map pos column.u32s.now) is usable
-  room_as (Some U64) is usable = in_target (unsigned 64) (slice_of column.u64s) (map pos column.u64s.now) is usable
-  room_as (Some I8) is usable = in_target (signed 8) (slice_of column.i8s) column.i8s.now is usable
-  room_as (Some I16) is usable = in_target (signed 16) (slice_of column.i16s) column.i16s.now is usable
-  room_as (Some I32) is usable = in_target (signed 32) (slice_of column.i32s) column.i32s.now is usable
-  room_as (Some I64) is usable = in_target (signed 64) (slice_of column.i64s) column.i64s.now is usable
+  in_texts : (t : Bool) (reading : Reading) (slice : Slice) (values : List Value)
+      → has_bits (cond t None (Some (target_by column reading slice values))) ≡ true
+      → IsUsable room (cond t None (Some (target_by column reading slice values))) → room ≤ 8 * length column.present.now
+  in_texts true reading slice values is usable = absurd (false≢true is)
+  in_texts false reading slice values is usable = in_target reading slice values is usable
+
+  room_as : (array : Option ArrayView) → has_bits (target_as column array) ≡ true
+      → IsUsable room (target_as column array) → room ≤ 8 * length column.present.now
+  room_as None is usable =
+      in_texts (nat_eq (length column.texts.now) 0) Texts (slice_of column.texts)
+      (map (λ text. Text (text_view text)) column.texts.now) is usable
+  room_as (Some array) is usable =
+      in_target (reading_of column.description array.type) array.slice (map Number array.numbers) is usable
 
   pub bits_there : has_bits (target_of column) ≡ true → IsUsable room (target_of column)
       → room ≤ 8 * length column.present.now
-  bits_there is usable = room_as (number_type column) is usable
+  bits_there is usable = room_as (array_in column.arrays) is usable
 
 -- a column stays usable
 zero_used : (room row : ℕ) (target : Option TargetView) → IsUsable room target
     → IsUsable room (option_map (put_zero row) target)
 zero_used room row None usable = tt
 zero_used room row (Some target) usable =
-    (usable.0, omega (arith, usable.1, length-set target.numbers row (pos 0)), usable.2)
+    (usable.0, omega (arith, usable.1, length-set target.values row (blank target.reading)), usable.2)
 
-still : (row : ℕ) (answer : Result ℤ Error) (numbers : List ℤ) (room : ℕ) → room ≤ length numbers
-    → room ≤ length (with_number row answer numbers)
-still row (Ok number) numbers room enough = omega (arith, enough, length-set numbers row number)
-still row (Err error) numbers room enough = enough
+still : (row : ℕ) (answer : Result Value Error) (values : List Value) (room : ℕ) → room ≤ length values
+    → room ≤ length (with_number row answer values)
+still row (Ok value) values room enough = omega (arith, enough, length-set values row value)
+still row (Err error) values room enough = enough
 
 number_used : (room row : ℕ) (text : FieldView) (target : Option TargetView) → IsUsable room target
     → IsUsable room (option_map (put_number row text) target)
 number_used room row text None usable = tt
 number_used room row text (Some target) usable =
-    (usable.0, still row (text_answer target text) target.numbers room usable.1, usable.2)
+    (usable.0, still row (text_answer target text) target.values room usable.1, usable.2)
 
 pub zero_usable : (room row : ℕ) (before between : Option TargetView) → IsUsable room before
     → between ≡ option_map (put_zero row) before → IsUsable room between
@@ -119,9 +120,9 @@ missing_put row before between after zeroed told =
     told ∙ ap (option_map (put_presence row false)) zeroed ∙ zero_missing row before
 
 -- a fault puts nothing
-failed : (row : ℕ) (answer : Result ℤ Error) (target : TargetView) (error : Error) → Some error ≡ error_in answer
-    → record target { numbers = with_number row answer target.numbers } ≡ put_answer row answer target
-failed row (Ok number) target error is = absurd cc
+failed : (row : ℕ) (answer : Result Value Error) (target : TargetView) (error : Error) → Some error ≡ error_in answer
+    → record target { values = with_number row answer target.values } ≡ put_answer row answer target
+failed row (Ok value) target error is = absurd cc
 failed row (Err other) target error is = refl
 
 failed_in : (row : ℕ) (text : FieldView) (target : Option TargetView) (error : Error)
@@ -136,10 +137,10 @@ pub number_failed : (row : ℕ) (text : FieldView) (before after : Option Target
 number_failed row text before after error is told = told ∙ failed_in row text before error is
 
 -- a number is put with its bit
-passed : (row : ℕ) (answer : Result ℤ Error) (target : TargetView) → None ≡ error_in answer
-    → put_presence row true (record target { numbers = with_number row answer target.numbers })
+passed : (row : ℕ) (answer : Result Value Error) (target : TargetView) → None ≡ error_in answer
+    → put_presence row true (record target { values = with_number row answer target.values })
     ≡ put_answer row answer target
-passed row (Ok number) target is = refl
+passed row (Ok value) target is = refl
 passed row (Err other) target is = absurd cc
 
 passed_in : (row : ℕ) (text : FieldView) (target : Option TargetView) → None ≡ text_fault target text
@@ -153,3 +154,49 @@ pub number_read : (row : ℕ) (text : FieldView) (before between after : Option 
     → after ≡ option_map (put_presence row true) between → after ≡ option_map (put_text row text) before
 number_read row text before between after is numbered told =
     told ∙ ap (option_map (put_presence row true)) numbered ∙ passed_in row text before is
+
+-- a text is put with its bit
+place_used : (room row : ℕ) (text : TextView) (target : Option TargetView) → IsUsable room target
+    → IsUsable room (option_map (put_place row text) target)
+place_used room row text None usable = tt
+place_used room row text (Some target) usable =
+    (usable.0, omega (arith, usable.1, length-set target.values row (Text text)), usable.2)
+
+pub place_usable : (room row : ℕ) (text : TextView) (before between : Option TargetView) → IsUsable room before
+    → between ≡ option_map (put_place row text) before → IsUsable room between
+place_usable room row text before between usable is =
+    subst (IsUsable room) (sym is) (place_used room row text before usable)
+
+with_place : (row : ℕ) (text : TextView) (target : Option TargetView)
+    → option_map (put_presence row true) (option_map (put_place row text) target)
+    ≡ option_map (put_value row (Some (Text text))) target
+with_place row text None = refl
+with_place row text (Some target) = refl
+
+pub text_put : (row : ℕ) (text : TextView) (before between after : Option TargetView)
+    → between ≡ option_map (put_place row text) before → after ≡ option_map (put_presence row true) between
+    → after ≡ option_map (put_value row (Some (Text text))) before
+text_put row text before between after placed told =
+    told ∙ ap (option_map (put_presence row true)) placed ∙ with_place row text before
+
+-- all of a text is what it stands for in a column of texts
+whole_by : (row : ℕ) (text : FieldView) (reading : Reading) (target : TargetView) → target.reading ≡ reading
+    → keeps_texts reading ≡ true
+    → put_value row (Some (Text (text_of false text))) target ≡ put_text row text target
+whole_by row text (Integers format type) target is texts = absurd (false≢true texts)
+whole_by row text (FixedPoints fixed type) target is texts = absurd (false≢true texts)
+whole_by row text Texts target is texts = ap (λ it. put_answer row (answer_by it text) target) (sym is)
+
+pub whole_put : (row : ℕ) (text : FieldView) (target : Option TargetView) → keeps_text target ≡ true
+    → option_map (put_value row (Some (Text (text_of false text)))) target ≡ option_map (put_text row text) target
+whole_put row text None texts = refl
+whole_put row text (Some target) texts = ap Some (whole_by row text target.reading target refl texts)
+
+fault_by : (text : FieldView) (reading : Reading) → keeps_texts reading ≡ true → None ≡ error_in (answer_by reading text)
+fault_by text (Integers format type) texts = absurd (false≢true texts)
+fault_by text (FixedPoints fixed type) texts = absurd (false≢true texts)
+fault_by text Texts texts = refl
+
+pub no_fault : (text : FieldView) (target : Option TargetView) → keeps_text target ≡ true → None ≡ text_fault target text
+no_fault text None texts = refl
+no_fault text (Some target) texts = fault_by text target.reading texts

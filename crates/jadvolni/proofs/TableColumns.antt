@@ -1,20 +1,25 @@
 -- Columns that can be read.
-use Rattle.std.proofs.Common.{◌≡◌, ◌+◌, ℕ, Bool, true, false, cond, List, [], ◌∷◌, length, map, nat_eq, nat_lt, Option, Some, None, refl, arith, ◌||◌, IfSome, ◌*◌, ◌≤◌}
+use Rattle.std.proofs.Common.{◌≡◌, ◌+◌, ℕ, Bool, true, false, cond, List, [], ◌∷◌, length, map, nat_eq, nat_lt, Option, Some, None, not, refl, ap, sym, arith, ◌==◌, ◌∙◌, ◌||◌, IfSome, ◌*◌, ◌≤◌}
 use Rattle.std.proofs.lemmas.Bool.Decides.{nat_tests}
-use Rattle.std.proofs.Math.IntN.{ℤ, pos}
 use Rattle.lexical_util.specs.Number.{IntegerType}
 use Rattle.lexical_util.specs.Validity.{fault}
+use Rattle.lexical_fixed.specs.Validity.{fixed_fault}
+use Rattle.lexical_fixed.specs.declared.error.FixedFormatError.{FixedFormatError}
+use Rattle.lexical_fixed.specs.declared.error.FixedFormatError.TheVariants.{Integer, Radix, Affix, Point, Places}
 use Rattle.lexical_util.specs.declared.error.Error.{Error}
 use Rattle.lexical_util.specs.declared.error.Error.TheVariants.{Overflow, Underflow, InvalidDigit, Empty, MissingSign, InvalidPositiveSign, InvalidLeadingZeros, InvalidMantissaRadix, InvalidDigitSeparator, InvalidBasePrefix, InvalidBaseSuffix, InvalidPunctuation, InvalidLiteralPrefixes}
 use Rattle.lexical_tables.specs.ByColumn.{AreUsable, IsUsable}
+use Rattle.lexical_tables.specs.Readings.{FixedPoints, Integers, IsValid, Number, Reading, Text, Texts, Value, keeps_texts}
 use Rattle.lexical_tables.specs.Targets.{Slice, slice_of}
-use Rattle.jadvolni.specs.Effect.{format_status, rule_status, signed, unsigned}
-use Rattle.jadvolni.specs.FormatFields.{are_known, format_of}
-use Rattle.jadvolni.specs.Tables.{bits_of, column_status, lacks_bits, number_type, refused, target_as, target_of, target_status, target_with, wrong_column}
+use Rattle.jadvolni.specs.Arrays.{ArrayView, array_in}
+use Rattle.jadvolni.specs.Effect.{format_status, rule_status}
+use Rattle.jadvolni.specs.Fixed.{fixed_format_status, fixed_known, fixed_of, fixed_rule_status}
+use Rattle.jadvolni.specs.declared.fixed.FixedFields.{FixedFields}
+use Rattle.jadvolni.specs.FormatFields.{are_known, are_zeros, format_of}
+use Rattle.jadvolni.specs.Tables.{bits_of, column_status, lacks_bits, number_status, reading_of, refused, target_as, target_by, target_of, target_status, text_view, wrong_column}
 use Rattle.jadvolni.specs.declared.format.FormatFields.{FormatFields}
 use Rattle.jadvolni.specs.declared.table_columns.ColumnFields.{ColumnFields}
-use Rattle.jadvolni.specs.declared.table_columns.NumberType.{NumberType}
-use Rattle.jadvolni.specs.declared.table_columns.NumberType.TheVariants.{I16, I32, I64, I8, U16, U32, U64, U8}
+use Rattle.jadvolni.proofs.ColumnNumbers.{keeps_none}
 use Rattle.jadvolni.specs.declared.tables.TableOutcome.{TableOutcome}
 
 -- a format without a fault has the status 0
@@ -33,6 +38,17 @@ no_rule (Some InvalidBasePrefix) is = absurd cc
 no_rule (Some InvalidBaseSuffix) is = absurd cc
 no_rule (Some InvalidPunctuation) is = absurd cc
 no_rule (Some InvalidLiteralPrefixes) is = absurd cc
+
+no_fixed_rule : (error : Option FixedFormatError) → fixed_rule_status error ≡ 0 → error ≡ None
+no_fixed_rule None is = refl
+no_fixed_rule (Some (Integer error)) is = absurd (some_none (no_rule (Some error) is))
+  where
+    some_none : Some error ≡ None → ⊥
+    some_none none = cc
+no_fixed_rule (Some Radix) is = absurd cc
+no_fixed_rule (Some Affix) is = absurd cc
+no_fixed_rule (Some Point) is = absurd cc
+no_fixed_rule (Some Places) is = absurd cc
 
 known : (is_known : Bool) (status : ℕ) → cond is_known status 64 ≡ 0 → status ≡ 0
 known true status is = is
@@ -60,35 +76,59 @@ bits_roomy : (rows : ℕ) (bits : Option (List ℕ)) → lacks_bits rows bits �
 bits_roomy rows None is = tt
 bits_roomy rows (Some bytes) is = grind (arith, nat_tests)
 
+-- a description of which numbers are read is valid
+module _ (description : FixedFields) (type : IntegerType) (status : number_status description ≡ 0) where
+  after_reserved : (are_none : Bool) (rest : ℕ) → cond (not are_none) 64 rest ≡ 0 → rest ≡ 0
+  after_reserved true rest is = is
+  after_reserved false rest is = absurd cc
+
+  pub valid_numbers : IsValid (reading_of description type)
+  valid_numbers =
+      by_places (description.places == 0)
+      (after_reserved (are_zeros description.reserved)
+      (cond (description.places == 0) (format_status description.integer) (fixed_format_status description)) status)
+    where
+      by_places : (t : Bool) → cond t (format_status description.integer) (fixed_format_status description) ≡ 0
+          → IsValid (cond t (Integers (format_of description.integer) type) (FixedPoints (fixed_of description) type))
+      by_places true is = valid description.integer is
+      by_places false is =
+          no_fixed_rule (fixed_fault (fixed_of description))
+          (known (fixed_known description) (fixed_rule_status (fixed_fault (fixed_of description))) is)
+
 module _ (rows : ℕ) (column : ColumnFields) where
-  with_usable : (type : IntegerType) (slice : Slice) (numbers : List ℤ)
-      → target_status rows column.format (target_with column type slice numbers) ≡ 0
-      → IsUsable rows (target_with column type slice numbers)
-  with_usable type slice numbers is =
-      let less = nat_lt (length numbers) rows in
+  with_usable : (reading : Reading) (slice : Slice) (values : List Value)
+      → (cond (keeps_texts reading) 0 (number_status column.description) ≡ 0 → IsValid reading)
+      → target_status rows column.description (Some (target_by column reading slice values)) ≡ 0
+      → IsUsable rows (Some (target_by column reading slice values))
+  with_usable reading slice values right is =
+      let less = nat_lt (length values) rows in
       let bits = bits_of column.present.now in
       let lacks = lacks_bits rows bits in
-      let not_less = roomy less lacks (format_status column.format) is in (
-        valid column.format (then_format (less || lacks) (format_status column.format) is),
+      let rest = cond (keeps_texts reading) 0 (number_status column.description) in
+      let not_less = roomy less lacks rest is in (
+        right (then_format (less || lacks) rest is),
         grind (arith, nat_tests),
-        bits_roomy rows bits (lacks_none less lacks (format_status column.format) is),
+        bits_roomy rows bits (lacks_none less lacks rest is),
       )
 
-  as_usable : (type : Option NumberType)
-      → target_status rows column.format (target_as column type) ≡ 0
-      → IsUsable rows (target_as column type)
-  as_usable None is = tt
-  as_usable (Some U8) is = with_usable (unsigned 8) (slice_of column.u8s) (map pos column.u8s.now) is
-  as_usable (Some U16) is = with_usable (unsigned 16) (slice_of column.u16s) (map pos column.u16s.now) is
-  as_usable (Some U32) is = with_usable (unsigned 32) (slice_of column.u32s) (map pos column.u32s.now) is
-  as_usable (Some U64) is = with_usable (unsigned 64) (slice_of column.u64s) (map pos column.u64s.now) is
-  as_usable (Some I8) is = with_usable (signed 8) (slice_of column.i8s) column.i8s.now is
-  as_usable (Some I16) is = with_usable (signed 16) (slice_of column.i16s) column.i16s.now is
-  as_usable (Some I32) is = with_usable (signed 32) (slice_of column.i32s) column.i32s.now is
-  as_usable (Some I64) is = with_usable (signed 64) (slice_of column.i64s) column.i64s.now is
+  text_usable : (t : Bool) (slice : Slice) (values : List Value)
+      → target_status rows column.description (cond t None (Some (target_by column Texts slice values))) ≡ 0
+      → IsUsable rows (cond t None (Some (target_by column Texts slice values)))
+  text_usable true slice values is = tt
+  text_usable false slice values is = with_usable Texts slice values (λ fine. tt) is
+
+  as_usable : (array : Option ArrayView) → target_status rows column.description (target_as column array) ≡ 0
+      → IsUsable rows (target_as column array)
+  as_usable None is =
+      text_usable (nat_eq (length column.texts.now) 0) (slice_of column.texts)
+      (map (λ text. Text (text_view text)) column.texts.now) is
+  as_usable (Some array) is =
+      with_usable (reading_of column.description array.type) array.slice (map Number array.numbers)
+      (λ fine. valid_numbers column.description array.type
+      (sym (ap (λ t. cond t 0 (number_status column.description)) (keeps_none column.description array.type)) ∙ fine)) is
 
   column_usable : column_status rows column ≡ 0 → IsUsable rows (target_of column)
-  column_usable is = as_usable (number_type column) is
+  column_usable is = as_usable (array_in column.arrays) is
 
 right : (is_right : Bool) (rest : Option TableOutcome) (wrong : TableOutcome)
     → cond is_right rest (Some wrong) ≡ None → is_right ≡ true

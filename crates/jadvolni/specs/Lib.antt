@@ -1,4 +1,5 @@
 -- The definitions that contracts name, a file for each subject.
+pub mod Arrays
 pub mod Columns
 pub mod Effect
 pub mod Fixed

@@ -1,5 +1,5 @@
 -- What reading a table does: what is answered, and what the arrays of its columns then have.
-use Rattle.std.specs.Prelude.{◌==◌, ◌||◌, ◌+◌, ◌*◌, ℕ, ℤ, Bool, false, not, pos, List, [], ◌∷◌, length, map, set, nat_lt, option_map, Option, Some, None, Result, Ok, Err, if◌then◌else◌}
+use Rattle.std.specs.Prelude.{◌==◌, ◌||◌, ◌+◌, ◌*◌, ℕ, ℤ, Bool, false, not, List, [], ◌∷◌, length, map, set, nat_lt, option_map, Option, Some, None, Result, Ok, Err, if◌then◌else◌}
 use Rattle.lexical_util.specs.Faults.{place_of}
 use Rattle.lexical_util.specs.Number.{IntegerType}
 use Rattle.lexical_fields.specs.Fields.{FieldView}
@@ -14,41 +14,17 @@ use Rattle.lexical_tables.specs.declared.answers.TableError.{TableError}
 use Rattle.lexical_tables.specs.declared.dialect.Dialect.{Dialect}
 use Rattle.lexical_tables.specs.declared.dialect.Layout.{Layout}
 use Rattle.lexical_tables.specs.declared.dialect.Layout.TheVariants.{Records, Separated, Widths}
-use Rattle.jadvolni.specs.Effect.{fault_place, fault_status, format_status, signed, unknown_field, unsigned}
+use Rattle.jadvolni.specs.Arrays.{ArrayView, array_in}
+use Rattle.jadvolni.specs.Effect.{fault_place, fault_status, format_status, unknown_field}
 use Rattle.jadvolni.specs.Fixed.{fixed_format_status, fixed_of}
 use Rattle.jadvolni.specs.FormatFields.{are_zeros, flag, format_of}
 use Rattle.jadvolni.specs.declared.fixed.FixedFields.{FixedFields}
 use Rattle.jadvolni.specs.declared.table_columns.ColumnFields.{ColumnFields}
-use Rattle.jadvolni.specs.declared.table_columns.NumberType.{NumberType}
-use Rattle.jadvolni.specs.declared.table_columns.NumberType.TheVariants.{I16, I32, I64, I8, U16, U32, U64, U8}
 use Rattle.jadvolni.specs.declared.text_columns.TextFields.{TextFields}
 use Rattle.jadvolni.specs.declared.tables.TableFields.{TableFields}
 use Rattle.jadvolni.specs.declared.tables.TableOutcome.{TableOutcome}
 
 -- ---- columns
-
--- one type, if its array has room, or else what the other arrays say
-abbrev pub type_or : ℕ → NumberType → Option NumberType → Option NumberType
-type_or room type others = if room == 0 then others else Some type
-
--- the type of a column's numbers: that of its first array which has room; without one the column isn't read
-abbrev pub number_type : ColumnFields → Option NumberType
-number_type column =
-    type_or (length column.i64s.now) I64 (type_or (length column.u64s.now) U64
-    (type_or (length column.i32s.now) I32 (type_or (length column.u32s.now) U32
-    (type_or (length column.i16s.now) I16 (type_or (length column.u16s.now) U16
-    (type_or (length column.i8s.now) I8 (type_or (length column.u8s.now) U8 None)))))))
-
--- a type, by its width and sign
-abbrev pub type_named : NumberType → IntegerType
-type_named U8 = unsigned 8
-type_named U16 = unsigned 16
-type_named U32 = unsigned 32
-type_named U64 = unsigned 64
-type_named I8 = signed 8
-type_named I16 = signed 16
-type_named I32 = signed 32
-type_named I64 = signed 64
 
 -- the bits of a column, if there is room for any
 abbrev pub bits_of : List ℕ → Option (List ℕ)
@@ -70,14 +46,15 @@ reading_of description type =
     if description.places == 0 then Integers (format_of description.integer) type
     else FixedPoints (fixed_of description) type
 
--- a column as a target of numbers
-abbrev pub target_with : ColumnFields → IntegerType → Slice → List ℤ → Option TargetView
-target_with column type slice numbers =
-    Some (target_by column (reading_of column.description type) slice (map Number numbers))
+-- a column as a target of the numbers of an array
+abbrev pub number_target : ColumnFields → ArrayView → TargetView
+number_target column array =
+    target_by column (reading_of column.description array.type) array.slice
+    (map Number array.numbers)
 
 -- a text as C has it
-abbrev pub view_of_text : TextFields → TextView
-view_of_text text = record {
+abbrev pub text_view : TextFields → TextView
+text_view text = record {
   start = text.start;
   size = text.size;
   has_doubled_quotes = flag text.has_doubled_quotes;
@@ -88,27 +65,16 @@ abbrev pub text_target : ColumnFields → Option TargetView
 text_target column =
     if length column.texts.now == 0 then None
     else Some (target_by column Texts (slice_of column.texts)
-    (map (λ text. Text (view_of_text text)) column.texts.now))
+    (map (λ text. Text (text_view text)) column.texts.now))
 
--- a column as a target, if it is read as numbers of a type, or else as texts
-abbrev pub target_as : ColumnFields → Option NumberType → Option TargetView
+-- a column as a target of the numbers of its array, or else of texts
+abbrev pub target_as : ColumnFields → Option ArrayView → Option TargetView
 target_as column None = text_target column
-target_as column (Some U8) =
-    target_with column (unsigned 8) (slice_of column.u8s) (map pos column.u8s.now)
-target_as column (Some U16) =
-    target_with column (unsigned 16) (slice_of column.u16s) (map pos column.u16s.now)
-target_as column (Some U32) =
-    target_with column (unsigned 32) (slice_of column.u32s) (map pos column.u32s.now)
-target_as column (Some U64) =
-    target_with column (unsigned 64) (slice_of column.u64s) (map pos column.u64s.now)
-target_as column (Some I8) = target_with column (signed 8) (slice_of column.i8s) column.i8s.now
-target_as column (Some I16) = target_with column (signed 16) (slice_of column.i16s) column.i16s.now
-target_as column (Some I32) = target_with column (signed 32) (slice_of column.i32s) column.i32s.now
-target_as column (Some I64) = target_with column (signed 64) (slice_of column.i64s) column.i64s.now
+target_as column (Some array) = Some (number_target column array)
 
 -- a column as a target
 abbrev pub target_of : ColumnFields → Option TargetView
-target_of column = target_as column (number_type column)
+target_of column = target_as column (array_in column.arrays)
 
 -- a target with the value of a text at a row's place
 abbrev pub put_number : ℕ → FieldView → TargetView → TargetView
@@ -119,6 +85,10 @@ put_number row text target = record target {
 -- a target with a number at a row's place
 abbrev pub put_at : ℕ → ℤ → TargetView → TargetView
 put_at row number target = record target { values = set target.values row (Number number) }
+
+-- a target with where a text stands at a row's place
+abbrev pub put_place : ℕ → TextView → TargetView → TargetView
+put_place row text target = record target { values = set target.values row (Text text) }
 
 -- a target with 0, or a text of no bytes, at a row's place
 abbrev pub put_zero : ℕ → TargetView → TargetView

@@ -1,15 +1,17 @@
 //! The codes of columns, and numbers that are put by these.
 
-ghost use Rattle.std.specs.Prelude.{◌≡◌, ◌+◌, ◌<◌, ◌≤◌, ◌^◌, IfSome, IsTrue, Some, false, is_some, option_map, true};
+ghost use Rattle.std.specs.Prelude.{◌≡◌, ◌+◌, ◌<◌, ◌≤◌, ◌^◌, IsTrue, Some, false, is_some, option_map, true};
 ghost use Rattle.lexical_digits.specs.Value.{with_sign};
 ghost use Rattle.lexical_util.specs.Number.{IsNumber};
 ghost use Rattle.lexical_tables.specs.ByColumn.{IsUsable};
 ghost use Rattle.lexical_tables.specs.Codes.{IsReadAs, coded_type, has_coded_bits};
-ghost use Rattle.jadvolni.specs.Tables.{number_type, put_at, target_of, type_named};
+ghost use Rattle.lexical_tables.specs.Targets.{has_bits};
+ghost use Rattle.jadvolni.specs.Arrays.{number_type, type_named};
+ghost use Rattle.jadvolni.specs.Tables.{put_at, target_of};
 
-use crate::table_columns::{ColumnFields, NumberType};
+use crate::arrays::NumberType;
+use crate::table_columns::ColumnFields;
 use lexical_tables::codes::{self, WITH_BITS};
-use lexical_tables::put_with_sign;
 
 impl NumberType {
     // The code of a column of such numbers, of which none may be missing.
@@ -35,10 +37,9 @@ impl ColumnFields<'_> {
     // The column's code, if its format were the standard one.
     #[inline(always)]
     pub(crate) fn standard_code(&self, numbers: NumberType) -> u8
-        requires numbers { number_type self.now ≡ Some numbers }
-        ensures column { IfSome (target_of self.now) (λ target.
-            (target.type ≡ coded_type result) × (is_some target.present ≡ has_coded_bits result)) }
-        ensures there { is_some (target_of self.now) ≡ true }
+        requires numbers { number_type self.now.arrays ≡ Some numbers }
+        ensures column { coded_type result ≡ type_named numbers }
+        ensures bits { has_bits (target_of self.now) ≡ has_coded_bits result }
         ensures read { 8 ≤ result }
         ensures standard { result < 32 }
     {
@@ -54,7 +55,7 @@ impl ColumnFields<'_> {
     fn type_of_code(&self, code: u8) -> NumberType
         requires column { IsReadAs code (target_of self.now) }
         requires read { 8 ≤ code }
-        ensures { number_type self.now ≡ Some result }
+        ensures { number_type self.now.arrays ≡ Some result }
     {
         match code % 8 {
             0 => NumberType::U8,
@@ -82,23 +83,13 @@ impl ColumnFields<'_> {
         requires read { 8 ≤ code }
         requires usable { IsUsable (row + 1) (target_of self.old) }
         requires small { number < 2 ^ 63 }
-        ensures fits { IsTrue result → IfSome (target_of self.old)
-            (λ target. IsNumber target.type (with_sign is_negative number)) }
-        ensures minus { IsTrue result → IsTrue is_negative → IfSome (target_of self.old)
-            (λ target. target.type.is_signed ≡ true) }
+        ensures fits { IsTrue result → IsNumber (coded_type code) (with_sign is_negative number) }
+        ensures minus { IsTrue result → IsTrue is_negative → (coded_type code).is_signed ≡ true }
         ensures target { IsTrue result → target_of self.new
             ≡ option_map (put_at row (with_sign is_negative number)) (target_of self.old) }
         ensures kept { result ≡ false → target_of self.new ≡ target_of self.old }
     {
-        match self.type_of_code(code) {
-            NumberType::U8 => put_with_sign(self.u8s, row, is_negative, number),
-            NumberType::U16 => put_with_sign(self.u16s, row, is_negative, number),
-            NumberType::U32 => put_with_sign(self.u32s, row, is_negative, number),
-            NumberType::U64 => put_with_sign(self.u64s, row, is_negative, number),
-            NumberType::I8 => put_with_sign(self.i8s, row, is_negative, number),
-            NumberType::I16 => put_with_sign(self.i16s, row, is_negative, number),
-            NumberType::I32 => put_with_sign(self.i32s, row, is_negative, number),
-            NumberType::I64 => put_with_sign(self.i64s, row, is_negative, number),
-        }
+        let numbers = self.type_of_code(code);
+        self.arrays.put_coded(numbers, row, is_negative, number)
     }
 }

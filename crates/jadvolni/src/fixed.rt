@@ -2,6 +2,8 @@
 
 ghost use Rattle.std.specs.Prelude.{◌≡◌};
 ghost use Rattle.jadvolni.specs.Effect.{effect};
+ghost use Rattle.jadvolni.specs.FormatFields.{are_zeros};
+ghost use Rattle.jadvolni.specs.Tables.{number_status};
 ghost use Rattle.jadvolni.specs.Fixed.{error_place, error_status, fixed_call, fixed_format_status, fixed_front_call, fixed_known, fixed_of, fixed_status, integer_of};
 
 use crate::format::FormatFields;
@@ -54,13 +56,32 @@ impl FixedFields {
     pub fn are_known(&self) -> bool
         ensures { result ≡ fixed_known self.now }
     {
-        // The reserved bytes are asked for as those of a format are.
+        self.integer.are_known() && self.are_reserved_zeros()
+    }
+
+    // Whether the bytes that are kept for later versions are 0: they are asked for as those of a format are.
+    fn are_reserved_zeros(&self) -> bool
+        ensures { result ≡ are_zeros self.now.reserved }
+    {
         let kept = FormatFields {
             nul_is_punctuation: 0,
             reserved: self.reserved,
             ..self.integer
         };
-        self.integer.are_known() && kept.are_known()
+        kept.are_known()
+    }
+
+    // The status of the format of integers, or of the description of numbers that have places.
+    pub(crate) fn number_status(&self) -> u32
+        ensures { result ≡ number_status self.now }
+    {
+        if !self.are_reserved_zeros() {
+            return UNKNOWN_FIELD;
+        }
+        if self.places == 0 {
+            return self.integer.status();
+        }
+        jadvolni_fixed_error(self)
     }
 
     /// The description that the fields stand for, which may be invalid.

@@ -1,6 +1,7 @@
 //! The parsers as C calls them: a static library, whose header is `include/jadvolni.h`.
 #![tactic(auto)]
 
+pub mod arrays;
 pub mod bad_rows;
 pub mod calls;
 mod coded_columns;
@@ -18,5 +19,6 @@ pub mod skipping;
 pub mod slot;
 pub mod table_columns;
 pub mod tables;
+pub mod text_columns;
 pub mod unsigned;
 pub mod version;

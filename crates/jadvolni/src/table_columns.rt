@@ -1,84 +1,45 @@
 //! The columns of a table, as C writes them.
 
-ghost use Rattle.std.specs.Prelude.{◌≡◌, ◌+◌, ◌<◌, ◌≤◌, ◌^◌, ℕ, IsTrue, None, false, length, take, option_map, true};
+ghost use Rattle.std.specs.Prelude.{◌≡◌, ◌≢◌, ◌+◌, ◌<◌, ◌≤◌, ◌^◌, ℕ, IsTrue, None, false, length, take, option_map, true};
 ghost use Rattle.lexical_util.specs.Format.{standard};
 ghost use Rattle.lexical_tables.specs.ByColumn.{IsUsable};
-ghost use Rattle.lexical_tables.specs.Targets.{has_bits, text_fault};
+ghost use Rattle.lexical_tables.specs.Targets.{has_bits, keeps_text, text_fault};
+ghost use Rattle.jadvolni.specs.Arrays.{array_in};
 ghost use Rattle.jadvolni.specs.FormatFields.{format_of};
-ghost use Rattle.jadvolni.specs.Tables.{bits_of, column_status, lacks_bits, number_type, put_number, put_presence, put_zero, target_of};
+ghost use Rattle.jadvolni.specs.Tables.{bits_of, column_status, lacks_bits, put_number, put_presence, put_zero, target_of};
 
-use crate::format::FormatFields;
-use lexical_parse_integer::format::STANDARD;
+use crate::arrays::ArrayFields;
+use crate::fixed::FixedFields;
+use crate::text_columns::{TextFields, text_fields};
 use lexical_parse_integer::{Error, Options};
-use lexical_tables::codes::{NOT_READ, has_bits, under_format};
-use lexical_tables::{TableColumn, put_at_once, put_bit, put_cell, put_standard_parsed, put_zero};
+use lexical_tables::codes::{NOT_READ, UNKNOWN, has_bits, under_format};
+use lexical_tables::{CellText, TableColumn, put_bit};
 
 /// The status of a table that no text can be read by.
 pub const INVALID_TABLE: u32 = 17;
 
-/// A column of a table: `jadvolni_column` in C, where each field is described.
+/// A column of a table: `jadvolni_table_column` in C, where each field is described.
 ///
-/// One array has room, and is where the column's numbers go, and says their type. Where none has, the column
-/// isn't read, and its format has no radix. Where there is room for bits, a number may be missing.
+/// Its cells are read as numbers of the array that has room: as fixed-point numbers where these have places, and else as
+/// integers. Or they are texts, if there is room for where these stand. Where no array has room, the column isn't read, and its
+/// format has no radix. Where there is room for bits, a number or a text may be missing.
 #[repr(C)]
 #[derive(Drop)]
 pub struct ColumnFields<'a> {
-    pub format: FormatFields,
-    pub i64s: &'a mut [i64],
-    pub u64s: &'a mut [u64],
-    pub i32s: &'a mut [i32],
-    pub u32s: &'a mut [u32],
-    pub i16s: &'a mut [i16],
-    pub u16s: &'a mut [u16],
-    pub i8s: &'a mut [i8],
-    pub u8s: &'a mut [u8],
+    pub description: FixedFields,
+    pub arrays: ArrayFields<'a>,
+    pub texts: &'a mut [TextFields],
     pub present: &'a mut [u8],
 }
 
-/// A type that the numbers of a column may have.
-#[derive(Debug, Copy, Clone, PartialEq, Eq)]
-pub enum NumberType {
-    U8,
-    U16,
-    U32,
-    U64,
-    I8,
-    I16,
-    I32,
-    I64,
-}
-
 impl ColumnFields<'_> {
-    // The type of the first array that has room, if any.
+    // Whether its numbers are integers under the standard format.
     #[inline(always)]
-    fn number_type(&self) -> Option<NumberType>
-        ensures { result ≡ number_type self.now }
+    fn is_standard(&self) -> bool
+        ensures standard { IsTrue result → format_of self.now.description.integer ≡ standard }
+        ensures integers { IsTrue result → self.now.description.places ≡ 0 }
     {
-        if !self.i64s.is_empty() {
-            return Some(NumberType::I64);
-        }
-        if !self.u64s.is_empty() {
-            return Some(NumberType::U64);
-        }
-        if !self.i32s.is_empty() {
-            return Some(NumberType::I32);
-        }
-        if !self.u32s.is_empty() {
-            return Some(NumberType::U32);
-        }
-        if !self.i16s.is_empty() {
-            return Some(NumberType::I16);
-        }
-        if !self.u16s.is_empty() {
-            return Some(NumberType::U16);
-        }
-        if !self.i8s.is_empty() {
-            return Some(NumberType::I8);
-        }
-        if !self.u8s.is_empty() {
-            return Some(NumberType::U8);
-        }
-        None
+        self.description.places == 0 && self.description.integer.is_standard()
     }
 
     // Whether the column has bits, and too few for so many rows.
@@ -111,25 +72,38 @@ impl ColumnFields<'_> {
         }
     }
 
-    // Puts 0 into a row's place.
+    // Puts 0, or a text of no bytes, into a row's place.
     fn put_zero(&mut self, row: usize)
         requires usable { IsUsable (row + 1) (target_of self.old) }
         ensures { target_of self.new ≡ option_map (put_zero row) (target_of self.old) }
     {
-        match self.number_type() {
-            None => {}
-            Some(NumberType::I64) => put_zero(self.i64s, row),
-            Some(NumberType::U64) => put_zero(self.u64s, row),
-            Some(NumberType::I32) => put_zero(self.i32s, row),
-            Some(NumberType::U32) => put_zero(self.u32s, row),
-            Some(NumberType::I16) => put_zero(self.i16s, row),
-            Some(NumberType::U16) => put_zero(self.u16s, row),
-            Some(NumberType::I8) => put_zero(self.i8s, row),
-            Some(NumberType::U8) => put_zero(self.u8s, row),
+        if self.is_text() {
+            self.put_no_text(row);
+        } else {
+            self.arrays.put_zero(row);
         }
     }
 
-    // Puts the number of a text into a row's place, or tells the text's fault, under a format that is made field by field.
+    // Puts the fixed-point number of a text into a row's place, or tells the text's fault.
+    #[inline(never)]
+    fn put_fixed_number(&mut self, row: usize, start: usize, text: &[u8]) -> Option<Error>
+        requires numbers { keeps_text (target_of self.old) ≡ false }
+        requires places { self.old.description.places ≢ 0 }
+        requires usable { IsUsable (row + 1) (target_of self.old) }
+        requires fits { start + length text.now < 2 ^ 64 }
+        ensures fault { result ≡ text_fault (target_of self.old)
+            (record { start = start; text = text.now }) }
+        ensures target { target_of self.new ≡ option_map (put_number row
+            (record { start = start; text = text.now })) (target_of self.old) }
+    {
+        let Some(_) = self.arrays.number_type() else {
+            return None;
+        };
+        let format = self.description.format();
+        self.arrays.put_fixed(row, start, text, &format)
+    }
+
+    // Puts the integer of a text into a row's place, or tells the text's fault, under a format that is made field by field.
     #[inline(never)]
     fn put_other_number(
         &mut self,
@@ -139,6 +113,8 @@ impl ColumnFields<'_> {
         ahead: &[u8],
         options: &Options,
     ) -> Option<Error>
+        requires numbers { keeps_text (target_of self.old) ≡ false }
+        requires integers { self.old.description.places ≡ 0 }
         requires usable { IsUsable (row + 1) (target_of self.old) }
         requires front { text.now ≡ take (length text.now) ahead.now }
         requires fits { start + length text.now < 2 ^ 64 }
@@ -147,18 +123,29 @@ impl ColumnFields<'_> {
         ensures target { target_of self.new ≡ option_map (put_number row
             (record { start = start; text = text.now })) (target_of self.old) }
     {
-        let format = self.format.format();
-        match self.number_type() {
-            None => None,
-            Some(NumberType::I64) => put_cell(self.i64s, row, start, text, ahead, &format, options),
-            Some(NumberType::U64) => put_cell(self.u64s, row, start, text, ahead, &format, options),
-            Some(NumberType::I32) => put_cell(self.i32s, row, start, text, ahead, &format, options),
-            Some(NumberType::U32) => put_cell(self.u32s, row, start, text, ahead, &format, options),
-            Some(NumberType::I16) => put_cell(self.i16s, row, start, text, ahead, &format, options),
-            Some(NumberType::U16) => put_cell(self.u16s, row, start, text, ahead, &format, options),
-            Some(NumberType::I8) => put_cell(self.i8s, row, start, text, ahead, &format, options),
-            Some(NumberType::U8) => put_cell(self.u8s, row, start, text, ahead, &format, options),
-        }
+        let Some(_) = self.arrays.number_type() else {
+            return None;
+        };
+        let format = self.description.integer.format();
+        self.arrays
+            .put_cell(row, start, text, ahead, &format, options)
+    }
+
+    // Puts the integer of a text that isn't had at once into a row's place, or tells the text's fault, under the standard
+    // format.
+    #[inline(always)]
+    fn put_standard_number(&mut self, row: usize, start: usize, text: &[u8]) -> Option<Error>
+        requires numbers { keeps_text (target_of self.old) ≡ false }
+        requires standard { format_of self.old.description.integer ≡ standard }
+        requires integers { self.old.description.places ≡ 0 }
+        requires usable { IsUsable (row + 1) (target_of self.old) }
+        requires fits { start + length text.now < 2 ^ 64 }
+        ensures fault { result ≡ text_fault (target_of self.old)
+            (record { start = start; text = text.now }) }
+        ensures target { target_of self.new ≡ option_map (put_number row
+            (record { start = start; text = text.now })) (target_of self.old) }
+    {
+        self.arrays.put_standard_parsed(row, start, text)
     }
 
     // Puts the number of a text that isn't had at once into a row's place, or tells the text's fault. Under the standard
@@ -172,6 +159,7 @@ impl ColumnFields<'_> {
         ahead: &[u8],
         options: &Options,
     ) -> Option<Error>
+        requires numbers { keeps_text (target_of self.old) ≡ false }
         requires usable { IsUsable (row + 1) (target_of self.old) }
         requires front { text.now ≡ take (length text.now) ahead.now }
         requires fits { start + length text.now < 2 ^ 64 }
@@ -180,27 +168,20 @@ impl ColumnFields<'_> {
         ensures target { target_of self.new ≡ option_map (put_number row
             (record { start = start; text = text.now })) (target_of self.old) }
     {
-        if !self.format.is_standard() {
-            return self.put_other_number(row, start, text, ahead, options);
+        if self.is_standard() {
+            return self.put_standard_number(row, start, text);
         }
-        match self.number_type() {
-            None => None,
-            Some(NumberType::I64) => put_standard_parsed(self.i64s, row, start, text),
-            Some(NumberType::U64) => put_standard_parsed(self.u64s, row, start, text),
-            Some(NumberType::I32) => put_standard_parsed(self.i32s, row, start, text),
-            Some(NumberType::U32) => put_standard_parsed(self.u32s, row, start, text),
-            Some(NumberType::I16) => put_standard_parsed(self.i16s, row, start, text),
-            Some(NumberType::U16) => put_standard_parsed(self.u16s, row, start, text),
-            Some(NumberType::I8) => put_standard_parsed(self.i8s, row, start, text),
-            Some(NumberType::U8) => put_standard_parsed(self.u8s, row, start, text),
+        if self.description.places != 0 {
+            return self.put_fixed_number(row, start, text);
         }
+        self.put_other_number(row, start, text, ahead, options)
     }
 
-    // Puts the number of a text's first bytes, so many, into a row's place, where it is had at once under the standard
-    // format. Why out of line: docs/DECISIONS.md, code.
-    #[inline(never)]
+    // Puts the integer of a text's first bytes, so many, into a row's place, where it is had at once under the standard format.
+    #[inline(always)]
     fn put_standard_at_once(&mut self, row: usize, ahead: &[u8], size: usize) -> bool
-        requires standard { format_of self.old.format ≡ standard }
+        requires standard { format_of self.old.description.integer ≡ standard }
+        requires integers { self.old.description.places ≡ 0 }
         requires usable { IsUsable (row + 1) (target_of self.old) }
         requires within { size ≤ length ahead.now }
         ensures fault { IsTrue result → (start : ℕ) → text_fault (target_of self.old)
@@ -210,42 +191,49 @@ impl ColumnFields<'_> {
             (target_of self.old) }
         ensures kept { result ≡ false → target_of self.new ≡ target_of self.old }
     {
-        match self.number_type() {
-            None => false,
-            Some(NumberType::I64) => put_at_once(self.i64s, row, ahead, size, &STANDARD),
-            Some(NumberType::U64) => put_at_once(self.u64s, row, ahead, size, &STANDARD),
-            Some(NumberType::I32) => put_at_once(self.i32s, row, ahead, size, &STANDARD),
-            Some(NumberType::U32) => put_at_once(self.u32s, row, ahead, size, &STANDARD),
-            Some(NumberType::I16) => put_at_once(self.i16s, row, ahead, size, &STANDARD),
-            Some(NumberType::U16) => put_at_once(self.u16s, row, ahead, size, &STANDARD),
-            Some(NumberType::I8) => put_at_once(self.i8s, row, ahead, size, &STANDARD),
-            Some(NumberType::U8) => put_at_once(self.u8s, row, ahead, size, &STANDARD),
+        if self.is_text() {
+            return false;
         }
+        self.arrays.put_at_once(row, ahead, size)
     }
 
     /// What is wrong with the column, if so many rows are asked for.
     pub fn status(&self, rows: usize) -> u32
         ensures { result ≡ column_status rows self.now }
     {
-        let room = match self.number_type() {
-            None if rows == 0 || self.format.mantissa_radix == 0 => return 0,
-            None => return INVALID_TABLE,
-            Some(NumberType::I64) => self.i64s.len(),
-            Some(NumberType::U64) => self.u64s.len(),
-            Some(NumberType::I32) => self.i32s.len(),
-            Some(NumberType::U32) => self.u32s.len(),
-            Some(NumberType::I16) => self.i16s.len(),
-            Some(NumberType::U16) => self.u16s.len(),
-            Some(NumberType::I8) => self.i8s.len(),
-            Some(NumberType::U8) => self.u8s.len(),
-        };
+        match self.arrays.room() {
+            Some(room) => self.number_status(room, rows),
+            None if !self.texts.is_empty() => self.text_status(rows),
+            None if rows == 0 || self.description.integer.mantissa_radix == 0 => 0,
+            None => INVALID_TABLE,
+        }
+    }
+
+    // What is wrong with a column of numbers that has an array of some room, if so many rows are asked for.
+    fn number_status(&self, room: usize, rows: usize) -> u32
+        requires room { option_map (λ array. length array.numbers) (array_in self.now.arrays) ≡ Some room }
+        ensures { result ≡ column_status rows self.now }
+    {
         if room < rows {
             return INVALID_TABLE;
         }
         if self.lacks_bits(rows) {
             return INVALID_TABLE;
         }
-        self.format.status()
+        self.description.number_status()
+    }
+
+    // What is wrong with a column of texts, if so many rows are asked for.
+    fn text_status(&self, rows: usize) -> u32
+        requires texts { array_in self.now.arrays ≡ None }
+        requires some { length self.now.texts.now ≢ 0 }
+        ensures { result ≡ column_status rows self.now }
+    {
+        if self.texts.len() < rows || self.lacks_bits(rows) {
+            INVALID_TABLE
+        } else {
+            0
+        }
     }
 }
 
@@ -254,18 +242,28 @@ impl TableColumn for ColumnFields<'_> {
 
     #[inline(always)]
     fn is_read(&self) -> bool {
-        self.number_type().is_some()
+        !self.texts.is_empty() || self.arrays.number_type().is_some()
+    }
+
+    #[inline(always)]
+    fn is_text(&self) -> bool {
+        !self.texts.is_empty() && self.arrays.number_type().is_none()
     }
 
     #[inline(always)]
     fn may_miss(&self) -> bool {
-        !self.present.is_empty() && self.number_type().is_some()
+        !self.present.is_empty() && self.is_read()
     }
 
     #[inline(never)]
     fn put_missing(&mut self, row: usize) {
         self.put_zero(row);
         self.put_presence(row, false);
+    }
+
+    fn put_text(&mut self, row: usize, text: CellText) {
+        self.put_place(row, text_fields(text));
+        self.put_presence(row, true);
     }
 
     fn read(
@@ -285,7 +283,7 @@ impl TableColumn for ColumnFields<'_> {
     // A column of another format isn't tried: `read_left` makes that format, once.
     #[inline(always)]
     fn read_at_once(&mut self, row: usize, ahead: &[u8], size: usize) -> bool {
-        if !self.format.is_standard() {
+        if !self.is_standard() {
             return false;
         }
         if !self.put_standard_at_once(row, ahead, size) {
@@ -304,6 +302,11 @@ impl TableColumn for ColumnFields<'_> {
         ahead: &[u8],
         options: &Options,
     ) -> Option<Error> {
+        if self.is_text() {
+            self.put_whole_text(row, start, text.len());
+            self.put_presence(row, true);
+            return None;
+        }
         if let Some(error) = self.put_parsed_number(row, start, text, ahead, options) {
             return Some(error);
         }
@@ -313,14 +316,21 @@ impl TableColumn for ColumnFields<'_> {
 
     #[inline(always)]
     fn code(&self) -> u8 {
-        let Some(number_type) = self.number_type() else {
-            return NOT_READ;
+        let Some(numbers) = self.arrays.number_type() else {
+            return if self.texts.is_empty() {
+                NOT_READ
+            } else {
+                UNKNOWN
+            };
         };
-        let code = self.standard_code(number_type);
-        if self.format.is_standard() {
+        if self.description.places != 0 {
+            return UNKNOWN;
+        }
+        let code = self.standard_code(numbers);
+        if self.is_standard() {
             return code;
         }
-        under_format(code, &self.format.format())
+        under_format(code, &self.description.integer.format())
     }
 
     #[inline(always)]

@@ -14,7 +14,7 @@ same_error (Ok number) = refl
 same_error (Err error) = refl
 
 -- numbers with that of an answer, as values
-as_values : (row : ℕ) (answer : Result ℤ Error) (numbers : List ℤ)
+pub as_values : (row : ℕ) (answer : Result ℤ Error) (numbers : List ℤ)
     → map Number (with_number row answer numbers) ≡ with_number row (view_of Number answer) (map Number numbers)
 as_values row (Ok number) numbers = map-set Number numbers row number
 as_values row (Err error) numbers = refl
