@@ -797,15 +797,43 @@ typedef struct jadvolni_table {
         size_t capacity;            \
     } name
 
+/* Where a text stands that a cell holds: within the quotes of a cell that has them, and with its blanks. */
+typedef struct jadvolni_cell_text {
+    size_t start; /* the place of its first byte, counted from the start of the text that was read */
+    size_t size;  /* how many bytes it has */
+
+    /* 1 where doubled quotes stand among them, of which each two stand for one; else 0. */
+    uint8_t has_doubled_quotes;
+} jadvolni_cell_text;
+
 /*
- * A column of a table: what its cells look like, and the array that their numbers go to. SET ONE OF THE
- * ARRAYS, which says the type; of several that have room the first is taken. A column without one, as
- * {0}, isn't read: its cells may hold any bytes but the separator and a line feed. Where rows are asked
- * for, its format has to have the radix 0, as {0} has it: else it is JADVOLNI_INVALID_TABLE.
+ * A column of a table: what its cells look like, and the array that their numbers go to, or where their
+ * texts stand. SET ONE OF THE ARRAYS, which says the type; of several that have room the first is taken.
+ * A column without one, as {0}, isn't read: its cells may hold any bytes but the separator and a line
+ * feed. Where rows are asked for, its format has to have the radix 0, as {0} has it: else it is
+ * JADVOLNI_INVALID_TABLE.
+ *
+ *     jadvolni_table_column amount = {.places = 2, .point = ',', .i64 = {cents, 1000}};
+ *     amount.format.digit_separator = '.';
+ *     amount.format.integer_internal_digit_separator = 1;
+ *     jadvolni_table_column purpose = {.text = {texts, 1000}};
+ *
+ * The first reads "-1.234,50" as -123450, and the second tells where each text stands.
  */
 typedef struct jadvolni_table_column {
-    /* What a cell that is read looks like. Where no array has room, its radix alone is looked at. */
+    /* What a number looks like, or its integer part where it has places. Where no array of numbers has
+     * room, its radix alone is looked at, and for texts nothing of it. */
     jadvolni_format format;
+
+    /* How fixed-point numbers are written, as in jadvolni_fixed, whose integer part is the format: so where
+     * its radix is 0, the radix is 10. Where `places` is 0, cells are integers, and neither of the
+     * other two is looked at. */
+    uint8_t point;
+    uint8_t places;
+    uint8_t takes_fewer;
+
+    /* 0, each of them, where an array of numbers has room: they are for fields of later versions. */
+    uint8_t reserved[13];
 
     JADVOLNI_ARRAY_(i64, int64_t);
     JADVOLNI_ARRAY_(u64, uint64_t);
@@ -816,9 +844,16 @@ typedef struct jadvolni_table_column {
     JADVOLNI_ARRAY_(i8, int8_t);
     JADVOLNI_ARRAY_(u8, uint8_t);
 
-    /* The bits that say where there is a number: for row k the bit k & 7 of byte k >> 3, where bit 0 is
-     * the lowest. It is 1 for a number, and 0 for a missing one, which is 0 in the array. Without bytes
-     * no number may be missing. */
+    /* Where texts stand. A cell may hold any bytes, and doubled quotes within its own: "a ""b""" is the
+     * text a ""b"", of which jadvolni_fold_quotes makes a "b". Blanks count as any byte. */
+    struct {
+        jadvolni_cell_text *texts;
+        size_t capacity;
+    } text;
+
+    /* The bits that say where there is a number or a text: for row k the bit k & 7 of byte k >> 3, where
+     * bit 0 is the lowest. It is 1 where there is one, and 0 for a missing one, which is 0 in the array, or
+     * a text of no bytes at place 0. Without bytes none may be missing. */
     struct {
         uint8_t *bytes;
         size_t size;
@@ -864,8 +899,9 @@ typedef struct jadvolni_table_result {
  *               row behind `capacity` rows. A call on the text from there on goes on exactly there. At
  *               a fault of the text its byte; else 0. Places are counted from the start of the text.
  *
- * The number of a cell goes to its row's place in its column's array. Behind a fault all numbers before
- * the wrong cell are there, those of its own row too, and all else in the arrays is as it was.
+ * The number of a cell, or where its text stands, goes to its row's place in its column's array. Behind a
+ * fault all of them before the wrong cell are there, those of its own row too, and all else in the arrays
+ * is as it was.
  *
  * So "365;rent;-80000\r\n" in the table above gives 365 and -80000, one row, and JADVOLNI_OK at 17. With
  * x for the last 0 it gives no row, and JADVOLNI_INVALID_DIGIT in column 2 at 14.
@@ -1122,9 +1158,9 @@ static inline const char *jadvolni_column_text_(uint32_t status, size_t rows,
 {
     const size_t rooms[] = {column->i64.capacity, column->u64.capacity, column->i32.capacity,
                             column->u32.capacity, column->i16.capacity, column->u16.capacity,
-                            column->i8.capacity, column->u8.capacity};
+                            column->i8.capacity, column->u8.capacity, column->text.capacity};
     size_t first = 0;
-    while (first < 7 && rooms[first] == 0) first++; /* the first that has room is the column's */
+    while (first < 8 && rooms[first] == 0) first++; /* the first that has room is the column's */
     if (status == JADVOLNI_INVALID_MANTISSA_RADIX && column->format.mantissa_radix == 0)
         return "the column has an array and no format: set it, as to the standard format";
     if (status != JADVOLNI_INVALID_TABLE) return jadvolni_status_text(status);
@@ -1200,11 +1236,15 @@ JADVOLNI_ASSERT_(fixed_has_48_bytes, sizeof(jadvolni_fixed) == 48);
 JADVOLNI_ASSERT_(point_is_at_32, offsetof(jadvolni_fixed, point) == 32);
 JADVOLNI_ASSERT_(position_has_16_bytes, sizeof(jadvolni_position) == 16);
 JADVOLNI_ASSERT_(table_has_48_bytes, sizeof(jadvolni_table) == 48);
-JADVOLNI_ASSERT_(table_column_has_176_bytes, sizeof(jadvolni_table_column) == 176);
+JADVOLNI_ASSERT_(table_column_has_208_bytes, sizeof(jadvolni_table_column) == 208);
 JADVOLNI_ASSERT_(missing_is_at_16, offsetof(jadvolni_table, missing) == 16);
 JADVOLNI_ASSERT_(widths_are_at_32, offsetof(jadvolni_table, widths) == 32);
-JADVOLNI_ASSERT_(first_array_is_at_32, offsetof(jadvolni_table_column, i64) == 32);
-JADVOLNI_ASSERT_(last_array_is_at_144, offsetof(jadvolni_table_column, u8) == 144);
+JADVOLNI_ASSERT_(column_point_is_at_32, offsetof(jadvolni_table_column, point) == 32);
+JADVOLNI_ASSERT_(first_array_is_at_48, offsetof(jadvolni_table_column, i64) == 48);
+JADVOLNI_ASSERT_(last_array_is_at_160, offsetof(jadvolni_table_column, u8) == 160);
+JADVOLNI_ASSERT_(texts_are_at_176, offsetof(jadvolni_table_column, text) == 176);
+JADVOLNI_ASSERT_(cell_text_has_24_bytes, sizeof(jadvolni_cell_text) == 24);
+JADVOLNI_ASSERT_(doubled_quotes_are_at_16, offsetof(jadvolni_cell_text, has_doubled_quotes) == 16);
 JADVOLNI_ASSERT_(table_result_has_32_bytes, sizeof(jadvolni_table_result) == 32);
 JADVOLNI_ASSERT_(column_is_at_8, offsetof(jadvolni_table_result, column) == 8);
 JADVOLNI_ASSERT_(row_result_has_24_bytes, sizeof(jadvolni_row_result) == 24);

@@ -15,14 +15,14 @@ const { TEXT } = memory;
 const call = memory.named("jadvolni_parse_table");
 
 // What a call is given and gives, behind the text: its answer, a table, its columns, the bytes that
-// stand for a missing number, the widths of cells, and the columns' arrays. A column is its format; for
-// each type the address of an array and its room; and those of its bits, which say where there is a
-// number.
+// stand for a missing number, the widths of cells, and the columns' arrays. A column is its format; two
+// words on fixed-point numbers; for each type the address of an array and its room; those of its texts;
+// and those of its bits, which say where there is a number.
 const tablePlace = numbersPlace + 32;
 const columnsPlace = tablePlace + 48;
-const WORDS = 22;
-const FIRST_ARRAY = 4;
-const BITS = 20;
+const WORDS = 26;
+const FIRST_ARRAY = 6;
+const BITS = 24;
 const TYPES = ["i64", "u64", "i32", "u32", "i16", "u16", "i8", "u8"];
 const FLAGS = ["has_returns", "has_quotes", "allows_blanks", "skips_empty_rows", "is_records"];
 const FIELDS = ["separator", ...FLAGS, "missing", "widths", "header"];

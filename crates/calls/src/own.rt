@@ -4,7 +4,7 @@ ghost use Rattle.std.specs.Prelude.{option_map};
 ghost use Rattle.lexical_tables.specs.Targets.{view_of_target};
 
 use lexical_parse_integer::{Error, Options};
-use lexical_tables::{TableColumn, Target};
+use lexical_tables::{CellText, TableColumn, Target};
 
 /// A column that is read as its target is.
 #[derive(Drop)]
@@ -21,6 +21,11 @@ impl TableColumn for Own<'_> {
     }
 
     #[inline(always)]
+    fn is_text(&self) -> bool {
+        self.target.is_text()
+    }
+
+    #[inline(always)]
     fn may_miss(&self) -> bool {
         self.target.may_miss()
     }
@@ -28,6 +33,10 @@ impl TableColumn for Own<'_> {
     #[inline(always)]
     fn put_missing(&mut self, row: usize) {
         self.target.put_missing(row);
+    }
+
+    fn put_text(&mut self, row: usize, text: CellText) {
+        self.target.put_text(row, text);
     }
 
     #[inline(always)]

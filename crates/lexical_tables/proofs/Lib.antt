@@ -13,6 +13,7 @@ pub mod ColumnTables
 pub mod ColumnsInParts
 pub mod EndLooks
 pub mod EndedCells
+pub mod KindRows
 pub mod LineSteps
 pub mod Looks
 pub mod MarkedCells

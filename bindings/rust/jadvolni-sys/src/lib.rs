@@ -82,11 +82,25 @@ pub struct jadvolni_array<T> {
     pub capacity: usize,
 }
 
-/// A column of a table. One array has room, or none has, and then the format's radix is 0.
+/// Where a text stands that a cell holds.
+#[repr(C)]
+#[derive(Debug, Copy, Clone, PartialEq, Eq)]
+pub struct jadvolni_cell_text {
+    pub start: usize,
+    pub size: usize,
+    pub has_doubled_quotes: u8,
+}
+
+/// A column of a table. One array has room, or none has, and then the format's radix is 0. Numbers have places where
+/// `places` isn't 0. The reserved bytes have to be 0.
 #[repr(C)]
 #[derive(Debug, Copy, Clone, PartialEq, Eq)]
 pub struct jadvolni_table_column {
     pub format: jadvolni_format,
+    pub point: u8,
+    pub places: u8,
+    pub takes_fewer: u8,
+    pub reserved: [u8; 13],
     pub i64: jadvolni_array<i64>,
     pub u64: jadvolni_array<u64>,
     pub i32: jadvolni_array<i32>,
@@ -95,6 +109,7 @@ pub struct jadvolni_table_column {
     pub u16: jadvolni_array<u16>,
     pub i8: jadvolni_array<i8>,
     pub u8: jadvolni_array<u8>,
+    pub text: jadvolni_array<jadvolni_cell_text>,
     pub present: jadvolni_array<u8>,
 }
 
@@ -174,7 +189,7 @@ const _: () = {
     );
     assert!(size_of::<jadvolni_table>() == 48 && offset_of!(jadvolni_table, widths) == 32);
     assert!(
-        size_of::<jadvolni_table_column>() == 176 && offset_of!(jadvolni_table_column, u8) == 144
+        size_of::<jadvolni_table_column>() == 208 && offset_of!(jadvolni_table_column, u8) == 160
     );
     assert!(
         size_of::<jadvolni_table_result>() == 32 && offset_of!(jadvolni_table_result, column) == 8

@@ -8,7 +8,7 @@ use crate::tests::answers;
 use lexical_parse_integer::format::STANDARD;
 use lexical_parse_integer::{Error, Options, options};
 use lexical_tables::{
-    CellFault, Dialect, Layout, Numbers, Table, TableColumn, TableError, Target, after_lines,
+    CellFault, CellText, Dialect, Layout, Numbers, Table, TableColumn, TableError, Target, after_lines,
     put_cell, put_standard_cell, read_columns, read_columns_part,
 };
 use std::alloc::{AllocError, Global};
@@ -262,12 +262,20 @@ impl TableColumn for Own<'_> {
         self.inner.is_read()
     }
 
+    fn is_text(&self) -> bool {
+        self.inner.is_text()
+    }
+
     fn may_miss(&self) -> bool {
         self.inner.may_miss()
     }
 
     fn put_missing(&mut self, row: usize) {
         self.inner.put_missing(row);
+    }
+
+    fn put_text(&mut self, row: usize, text: CellText) {
+        self.inner.put_text(row, text);
     }
 
     fn read(
