@@ -758,7 +758,7 @@ typedef struct jadvolni_table {
     uint8_t separator;
 
     /* Flag: a carriage return stands before each line feed. Without it a return is a byte of its
-     * cell, and so a fault in a number. */
+     * cell, and so a fault in a number. `allows_returns` is for rows that end either way. */
     uint8_t has_returns;
 
     /* Flag: a cell may stand within quotes, '"', and then hold separators and line feeds. A quote that
@@ -775,8 +775,13 @@ typedef struct jadvolni_table {
      * stands between two rows, and a line feed is a byte as any other. It needs widths. */
     uint8_t is_records;
 
+    /* Flag: a carriage return may stand before a line feed that ends a row, and is no byte of the row:
+     * so each row may end either way. Any other return is a byte of its cell, also at the end of the
+     * text. Where `has_returns` is set, this changes nothing. */
+    uint8_t allows_returns;
+
     /* 0, each of them: they are for fields of later versions. */
-    uint8_t reserved[10];
+    uint8_t reserved[9];
 
     /* What stands for a missing number, byte for byte, in columns that have bits for it: in a cell, also
      * within its quotes, and among blanks where they are allowed. With no byte, which NULL may stand

@@ -29,6 +29,7 @@ pub mod QuotesUnread
 pub mod ReadAlone
 pub mod RecordRows
 pub mod RecordSteps
+pub mod ReturnRows
 pub mod RowSteps
 pub mod RowsInParts
 pub mod SeenBytes
