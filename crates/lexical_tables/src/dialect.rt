@@ -37,25 +37,25 @@ pub struct Dialect<'a> {
     /// Whether a carriage return stands before each line feed that ends a row. Without it a return is a byte of its
     /// cell.
     pub has_returns: bool,
-    /// Whether a carriage return may stand before a line feed that ends a row: then it is no byte of the row. Any other is
-    /// a byte of its cell, as at the text's end. Where `has_returns` asks for one, this changes nothing.
-    pub allows_returns: bool,
     /// Whether cells may stand within quotes, `"`, as RFC 4180 says. A quote that is the separator parts cells.
     pub has_quotes: bool,
     /// Whether blanks, spaces and tabs, may stand around a number, or around what stands for a missing one.
     pub allows_blanks: bool,
     /// Whether a row that has no byte beside its return is none.
     pub skips_empty_rows: bool,
+    /// Whether a carriage return may stand before a line feed that ends a row: then it is no byte of the row. Any other is
+    /// a byte of its cell, as at the text's end. Where `has_returns` asks for one, this changes nothing.
+    pub allows_returns: bool,
     /// What stands for a missing number, in columns that have bits for it.
     pub missing: &'a [u8],
 }
 
 impl Dialect<'_> {
-    // Whether a return may stand in front of the line feed that ends a line.
+    // Whether a return may stand in front of the line feed that ends a line. Why `|`: docs/DECISIONS.md, code.
     #[inline(always)]
     pub(crate) fn takes_returns(&self) -> bool
         ensures { result ≡ takes_returns self.now }
     {
-        self.has_returns || self.allows_returns
+        self.has_returns | self.allows_returns
     }
 }

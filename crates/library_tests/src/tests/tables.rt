@@ -46,6 +46,11 @@ fn fault_in(row: usize, column: usize, fault: CellFault) -> Answer {
 
 // What is read of a text whose first column is read, in room for three rows, and what that then holds.
 fn read(text: &[u8], has_returns: bool) -> (Answer, [i16; 3]) {
+    read_under(text, &pairs(has_returns))
+}
+
+// The same of a table that is written so.
+fn read_under(text: &[u8], dialect: &Dialect<'_>) -> (Answer, [i16; 3]) {
     let mut numbers = [9; 3];
     let mut target = Some(Target {
         format: STANDARD,
@@ -53,7 +58,7 @@ fn read(text: &[u8], has_returns: bool) -> (Answer, [i16; 3]) {
         present: None,
     });
     let targets = slice::from_mut(&mut target);
-    let answer = read_columns(text, &pairs(has_returns), &options::STANDARD, 3, targets);
+    let answer = read_columns(text, dialect, &options::STANDARD, 3, targets);
     (answer, numbers)
 }
 
@@ -89,6 +94,27 @@ fn first_wrong_cells(rt: HostRuntime) {
     answers(&rt, read(b"1,2,", false), (many, [1, 9, 9]));
     let lacks = fault_in(0, 2, CellFault::MissingReturn(3));
     answers(&rt, read(b"1,2\n", true), (lacks, [1, 9, 9]));
+}
+
+#[test]
+fn rows_may_end_either_way(rt: HostRuntime) {
+    let dialect = Dialect {
+        allows_returns: true,
+        ..pairs(false)
+    };
+    let rows = read_under(b"1,2\r\n-30,x\n7,\r\n", &dialect);
+    answers(&rt, rows, (table(3, 15), [1, -30, 7]));
+    let within = fault_in(1, 0, CellFault::NotNumber(Error::InvalidDigit(5)));
+    answers(&rt, read_under(b"1,2\n3\r,4\n", &dialect), (within, [1, 9, 9]));
+    let last = Dialect {
+        layout: Layout::Separated {
+            separator: b',',
+            columns: 1,
+        },
+        ..dialect
+    };
+    let alone = fault_in(1, 0, CellFault::NotNumber(Error::InvalidDigit(4)));
+    answers(&rt, read_under(b"6\r\n5\r", &last), (alone, [6, 9, 9]));
 }
 
 #[test]
