@@ -1001,6 +1001,25 @@ jadvolni_skipping_result jadvolni_parse_table_skipping(
     jadvolni_table_column *columns, size_t column_count, jadvolni_bad_row *bad, size_t bad_capacity)
     JADVOLNI_CHECKED_(4) JADVOLNI_TEXT_ JADVOLNI_READS_(6, 7) JADVOLNI_WRITES_(8, 9);
 
+/* ---- quotes ---- */
+
+/*
+ * A text with each doubled quote as one, and the answer is how many bytes that has: at most `len`. It is
+ * for what stands within the quotes of a cell, which jadvolni_parse_table leaves as it is.
+ *
+ *     size_t size = jadvolni_fold_quotes(text, len, folded, sizeof folded);
+ *     if (size <= sizeof folded) fwrite(folded, 1, size, stdout);
+ *
+ * Where the answer is more than `capacity`, nothing was written, and a call with so many bytes writes all.
+ * What lies behind the bytes that are written is as it was. A quote that isn't doubled stays, so of three in
+ * a row two are left. The text 5"" nails gives 5" nails, and 8.
+ *
+ * `folded` points to `capacity` bytes that may be written, and may be NULL where that is 0. They don't lie
+ * in the text.
+ */
+size_t jadvolni_fold_quotes(const char *text, size_t len, char *folded, size_t capacity)
+    JADVOLNI_TEXT_ JADVOLNI_WRITES_(3, 4);
+
 #ifdef __clang__
 #pragma clang diagnostic pop
 #endif

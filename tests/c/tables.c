@@ -341,12 +341,24 @@ static void records(void)
     EXPECT("\"1\"\"\n\"4\"", table, JADVOLNI_MISPLACED_QUOTE, 1, 0, 3, 1, 99, 77, 99);
 }
 
+/* Doubled quotes are folded where there is room, and nothing behind changes. */
+static void folding(void)
+{
+    static const char text[] = "\"\"5\"\" nails\"\"\"";
+    char folded[13] = "............";
+    CHECK(jadvolni_fold_quotes(text, sizeof text - 1, folded, 10) == 11 && strcmp(folded, "............") == 0);
+    CHECK(jadvolni_fold_quotes(text, sizeof text - 1, folded, 11) == 11 && strcmp(folded, "\"5\" nails\"\".") == 0);
+    CHECK(jadvolni_fold_quotes(text, sizeof text - 1, NULL, 0) == 11);
+    CHECK(jadvolni_fold_quotes(NULL, 0, NULL, 0) == 0);
+}
+
 int main(void)
 {
     widths_in_lines();
     records();
     missing_numbers();
     quotes();
+    folding();
     each_type();
     faults_of_cells();
     line_ends();

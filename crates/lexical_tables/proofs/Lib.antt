@@ -13,6 +13,8 @@ pub mod ColumnTables
 pub mod ColumnsInParts
 pub mod EndLooks
 pub mod EndedCells
+pub mod FoldRows
+pub mod FoldSteps
 pub mod LineSteps
 pub mod Looks
 pub mod MarkedCells

@@ -320,4 +320,5 @@ extern "C" {
     pub fn jadvolni_parse_isize_fixed_front(text: *const c_char, len: usize, fixed: *const jadvolni_fixed, value: *mut isize) -> jadvolni_result;
     pub fn jadvolni_line_column(text: *const c_char, len: usize, place: usize) -> jadvolni_position;
     pub fn jadvolni_field_start(text: *const c_char, len: usize, separator: u8) -> usize;
+    pub fn jadvolni_fold_quotes(text: *const c_char, len: usize, folded: *mut c_char, capacity: usize) -> usize;
 }

@@ -9,7 +9,7 @@ use lexical_parse_integer::format::STANDARD;
 use lexical_parse_integer::{Error, Options, options};
 use lexical_tables::{
     CellFault, Dialect, Layout, Numbers, Table, TableColumn, TableError, Target, after_lines,
-    put_cell, put_standard_cell, read_columns, read_columns_part,
+    fold_quotes, put_cell, put_standard_cell, read_columns, read_columns_part,
 };
 use std::alloc::{AllocError, Global};
 use std::slice;
@@ -137,6 +137,16 @@ fn cells_with_quotes_blanks_and_marks(rt: HostRuntime) {
     let answer = read_columns(text, &dialect, &options::STANDARD, 3, targets);
     answers(&rt, answer, table(2, 21));
     answers(&rt, (numbers, bits), ([1, 0, 9], [0xfd]));
+}
+
+#[test]
+fn doubled_quotes_are_folded(rt: HostRuntime) {
+    let mut to = *b".........";
+    answers(&rt, fold_quotes(b"5\"\" nails", &mut to), 8);
+    answers(&rt, to, *b"5\" nails.");
+    let mut short = *b"...";
+    answers(&rt, fold_quotes(b"a\"\"\"b", &mut short), 4);
+    answers(&rt, short, *b"...");
 }
 
 #[test]
