@@ -758,7 +758,7 @@ typedef struct jadvolni_table {
     uint8_t separator;
 
     /* Flag: a carriage return stands before each line feed. Without it a return is a byte of its
-     * cell, and so a fault in a number. */
+     * cell, and so a fault in a number. `allows_returns` is for rows that end either way. */
     uint8_t has_returns;
 
     /* Flag: a cell may stand within quotes, '"', and then hold separators and line feeds. A quote that
@@ -775,8 +775,13 @@ typedef struct jadvolni_table {
      * stands between two rows, and a line feed is a byte as any other. It needs widths. */
     uint8_t is_records;
 
+    /* Flag: a carriage return may stand before a line feed that ends a row, and is no byte of the row:
+     * so each row may end either way. Any other return is a byte of its cell, also at the end of the
+     * text. Where `has_returns` is set, this changes nothing. */
+    uint8_t allows_returns;
+
     /* 0, each of them: they are for fields of later versions. */
-    uint8_t reserved[10];
+    uint8_t reserved[9];
 
     /* What stands for a missing number, byte for byte, in columns that have bits for it: in a cell, also
      * within its quotes, and among blanks where they are allowed. With no byte, which NULL may stand
@@ -1031,6 +1036,25 @@ jadvolni_skipping_result jadvolni_parse_table_skipping(
     const char *text, size_t len, bool is_last, const jadvolni_table *table, size_t capacity,
     jadvolni_table_column *columns, size_t column_count, jadvolni_bad_row *bad, size_t bad_capacity)
     JADVOLNI_CHECKED_(4) JADVOLNI_TEXT_ JADVOLNI_READS_(6, 7) JADVOLNI_WRITES_(8, 9);
+
+/* ---- quotes ---- */
+
+/*
+ * A text with each doubled quote as one, and the answer is how many bytes that has: at most `len`. It is
+ * for what stands within the quotes of a cell, which jadvolni_parse_table leaves as it is.
+ *
+ *     size_t size = jadvolni_fold_quotes(text, len, folded, sizeof folded);
+ *     if (size <= sizeof folded) fwrite(folded, 1, size, stdout);
+ *
+ * Where the answer is more than `capacity`, nothing was written, and a call with so many bytes writes all.
+ * What lies behind the bytes that are written is as it was. A quote that isn't doubled stays, so of three in
+ * a row two are left. The text 5"" nails gives 5" nails, and 8.
+ *
+ * `folded` points to `capacity` bytes that may be written, and may be NULL where that is 0. They don't lie
+ * in the text.
+ */
+size_t jadvolni_fold_quotes(const char *text, size_t len, char *folded, size_t capacity)
+    JADVOLNI_TEXT_ JADVOLNI_WRITES_(3, 4);
 
 #ifdef __clang__
 #pragma clang diagnostic pop

@@ -187,12 +187,13 @@ public:
     header_row header()
     {
         const char *trouble = pass_byte_order_mark();
+        bool takes_returns = how_.has_returns || how_.allows_returns;
         std::string_view row;
         do {
             pass(row.size());
             if (trouble || (trouble = fill_row())) return {{}, place_of(trouble), trouble};
             row = {bytes_ + first_, is_last_ && !ends() ? stop_ - first_ : ends_.stop()};
-        } while (how_.skips_empty_rows && (row == "\n" || (row == "\r\n" && how_.has_returns)));
+        } while (how_.skips_empty_rows && (row == "\n" || (row == "\r\n" && takes_returns)));
         header_row header(row, before_ + first_, nullptr);
         pass(row.size());
         return header;

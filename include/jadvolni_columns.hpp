@@ -119,7 +119,8 @@ private:
     {
         if (how_.is_records || row.empty() || row.back() != '\n') return row;
         row.remove_suffix(1);
-        if (how_.has_returns && !row.empty() && row.back() == '\r') row.remove_suffix(1);
+        bool takes_returns = how_.has_returns || how_.allows_returns;
+        if (takes_returns && !row.empty() && row.back() == '\r') row.remove_suffix(1);
         return row;
     }
 

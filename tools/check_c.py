@@ -49,7 +49,7 @@ COLUMN_TYPES = [f"{sign}{size}" for sign in "ui" for size in (8, 16, 32, 64)]
 CALLS = sorted(["jadvolni_version", "jadvolni_format_error", "jadvolni_field_start",
                 "jadvolni_parse_literal", "jadvolni_parse_table",
                 "jadvolni_parse_table_skipping", "jadvolni_row_place", "jadvolni_fixed_error",
-                "jadvolni_line_column"]
+                "jadvolni_line_column", "jadvolni_fold_quotes"]
                + [f"jadvolni_parse_{name}_fixed{form}" for name, form in product(TYPES, FIXED)]
                + [f"jadvolni_parse_{name}{form}" for name, form in product(TYPES, FORMS)]
                + [f"jadvolni_parse_{name}_column" for name in COLUMN_TYPES])

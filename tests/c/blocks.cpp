@@ -179,13 +179,15 @@ static void headers()
                 + std::to_string(numbers[0]) + ' ' + std::to_string(block.place());
         return told;
     };
-    auto skips = commas(true);
+    auto skips = commas(true), either = commas(false);
     skips.skips_empty_rows = skips.has_returns = 1;
+    either.skips_empty_rows = either.allows_returns = 1;
     for (std::size_t step : {1u, 2u, 5u, 99u})
         for (std::size_t size : {16u, 40u}) {
             CHECK(header("a,b\nx,7\n", step, size, commas(false)) == "a,b\n|no fault 0 7 8");
             CHECK(header("\xEF\xBB\xBF\"a\n\"\"\",b\nx,7\n", step, size, commas(true)) == "\"a\n\"\"\",b\n|no fault 0 7 16");
             CHECK(header("\r\n\r\na,b\r\nx,7\r\n", step, size, skips) == "a,b\r\n|no fault 0 7 14");
+            CHECK(header("\r\n\na,b\r\nx,7\n", step, size, either) == "a,b\r\n|no fault 0 7 12");
             CHECK(header("a,b", step, size, commas(false)) == "a,b");
             CHECK(header("", step, size, commas(false)).empty() && header("\xEF\xBB\xBF", step, size, skips).empty());
         }

@@ -48,6 +48,8 @@ static void names()
     CHECK(header("\n\n,\n", skips) == "|| 4");
     skips.has_returns = 1;
     CHECK(header("\r\n\r\na", skips) == "a| 5");
+    skips.has_returns = 0, skips.allows_returns = 1;
+    CHECK(header("\r\n\na,b\r\n1,2\n", skips) == "a|b| 8");
     CHECK(header("\n1\n", commas()) == "| 1");
     auto parted = commas(true);
     parted.separator = '"';

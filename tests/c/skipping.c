@@ -42,7 +42,7 @@ static void places(void)
     IS_AT("12345", records, 1, 3, 5);
     jadvolni_row_result r = jadvolni_row_place("1\n2", 3, &wrong, 1);
     CHECK(r.status == JADVOLNI_INVALID_TABLE && r.start == 0 && r.stop == 0);
-    lines.reserved[9] = 1;
+    lines.reserved[8] = 1;
     CHECK(jadvolni_row_place("1\n2", 3, &lines, 1).status == JADVOLNI_INVALID_TABLE);
 }
 

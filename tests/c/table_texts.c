@@ -25,9 +25,9 @@ static void tables(void)
     const jadvolni_table_column unread = {.format = {0}};
     jadvolni_table table = {0};
     CHECK(is(said("1", &table, 4, unread), "no fault"));
-    table.reserved[9] = 1;
+    table.reserved[8] = 1;
     CHECK(is(said("1", &table, 4, unread), "the reserved bytes of the table have to be 0"));
-    table.reserved[9] = 0, table.widths = widths, table.width_count = 2;
+    table.reserved[8] = 0, table.widths = widths, table.width_count = 2;
     CHECK(is(said("1", &table, 4, unread), "not one for each column"));
     table.width_count = 0, table.is_records = 1;
     CHECK(is(said("1", &table, 4, unread), "records needs widths"));

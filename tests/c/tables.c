@@ -79,6 +79,25 @@ static void faults_of_cells(void)
     EXPECT("1;;2\r\r\n", returns, JADVOLNI_INVALID_DIGIT, 2, 0, 4, 1, 99, 77, 99);
 }
 
+/* Rows that end either way: a return in front of the line feed is no byte of the row, any other is one of its cell. */
+static void line_ends(void)
+{
+    jadvolni_table either = {.separator = ';', .allows_returns = 1};
+    EXPECT("1;a;2\r\n-3;;4\n", either, JADVOLNI_OK, 0, 2, 13, 1, 2, -3, 4);
+    EXPECT("1;;2\n-3;;4\r\n", either, JADVOLNI_OK, 0, 2, 12, 1, 2, -3, 4);
+    EXPECT("1;;2\r\n-3;;4", either, JADVOLNI_OK, 0, 2, 11, 1, 2, -3, 4);
+    EXPECT("1\r;;2\n", either, JADVOLNI_INVALID_DIGIT, 0, 0, 1, 77, 99, 77, 99);
+    EXPECT("1;;2\r\r\n", either, JADVOLNI_INVALID_DIGIT, 2, 0, 4, 1, 99, 77, 99);
+    EXPECT("1;;2\n-3;;4\r", either, JADVOLNI_INVALID_DIGIT, 2, 1, 10, 1, 2, -3, 99);
+    /* In front of a long row too, whose first cell is empty. */
+    EXPECT("1;a;2\r\n-3;;4\n;................................................................................",
+           either, JADVOLNI_EMPTY, 0, 2, 13, 1, 2, -3, 4);
+    either.skips_empty_rows = 1;
+    EXPECT("\r\n\n1;;2\r\n", either, JADVOLNI_OK, 0, 1, 9, 1, 2, 77, 99);
+    either.has_returns = 1;
+    EXPECT("1;;2\n", either, JADVOLNI_MISSING_RETURN, 3, 0, 4, 1, 2, 77, 99);
+}
+
 /* What is wrong with a table or a column is told before the text, and nothing is written. */
 static void faults_of_tables(void)
 {
@@ -322,14 +341,27 @@ static void records(void)
     EXPECT("\"1\"\"\n\"4\"", table, JADVOLNI_MISPLACED_QUOTE, 1, 0, 3, 1, 99, 77, 99);
 }
 
+/* Doubled quotes are folded where there is room, and nothing behind changes. */
+static void folding(void)
+{
+    static const char text[] = "\"\"5\"\" nails\"\"\"";
+    char folded[13] = "............";
+    CHECK(jadvolni_fold_quotes(text, sizeof text - 1, folded, 10) == 11 && strcmp(folded, "............") == 0);
+    CHECK(jadvolni_fold_quotes(text, sizeof text - 1, folded, 11) == 11 && strcmp(folded, "\"5\" nails\"\".") == 0);
+    CHECK(jadvolni_fold_quotes(text, sizeof text - 1, NULL, 0) == 11);
+    CHECK(jadvolni_fold_quotes(NULL, 0, NULL, 0) == 0);
+}
+
 int main(void)
 {
     widths_in_lines();
     records();
     missing_numbers();
     quotes();
+    folding();
     each_type();
     faults_of_cells();
+    line_ends();
     faults_of_tables();
     columns_without_room();
     arrays_in_turn();

@@ -22,7 +22,7 @@ typedef struct question {
     uint16_t len, first_cut, cuts;
     uint8_t separator, flags, missing_len, columns;
     uint8_t rows, room; /* that are asked for; that each array has */
-    uint8_t bad_room, unused;
+    uint8_t bad_room, allows_returns;
 } question;
 
 /* What a call answered. */
@@ -133,6 +133,7 @@ static jadvolni_table *set_table(void)
                               .allows_blanks = asked.flags & BLANKS,
                               .skips_empty_rows = asked.flags & SKIPS,
                               .is_records = asked.flags & RECORDS,
+                              .allows_returns = asked.allows_returns,
                               .missing = memcpy(within(MISSING, asked.missing_len), missing, asked.missing_len),
                               .missing_len = asked.missing_len};
     if (asked.flags & BY_WIDTHS) {

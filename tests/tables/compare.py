@@ -37,7 +37,7 @@ MOST_TOLD = 5
 BATCH = 20000
 # What arrays and bits have before.
 NUMBERS_BEFORE, BITS_BEFORE, KNOWN_BEFORE = b"\x77", b"\x5a", b"\x33"
-QUESTION, ANSWER = struct.Struct("=HHHBBBBBBBx"), struct.Struct("=5Q")
+QUESTION, ANSWER = struct.Struct("=HHHBBBBBBBB"), struct.Struct("=5Q")
 BAD_ROW, ROW_PLACE = struct.Struct("=I20x5Q"), struct.Struct("=3Q")
 # Of how many rows it is asked where they are.
 PLACES_ASKED = 5
@@ -72,7 +72,8 @@ def written(question: Question) -> bytes:
              | dialect.skips_empty_rows << 3 | is_last << 4 | (dialect.widths is not None) << 5
              | dialect.is_records << 6 | (bad_room is not None) << 7)
     asked = QUESTION.pack(len(text), cuts.start, len(cuts), dialect.separator, flags,
-                          len(dialect.missing), dialect.columns, rows, room, bad_room or 0)
+                          len(dialect.missing), dialect.columns, rows, room, bad_room or 0,
+                          dialect.allows_returns)
     widths = struct.pack(f"={dialect.columns}Q", *(dialect.widths or dialect.columns * [0]))
     return asked + b"".join(map(target_written, targets)) + widths + dialect.missing + text
 

@@ -68,7 +68,7 @@ def random_dialect(chance: random.Random) -> Dialect:
     separator = chance.choice(ODD_SEPARATORS if odd else SEPARATORS)
     columns = chance.choice((0, 1, 1, 2, 2, 2, 3, 3, 4, 5))
     dialect = Dialect(separator, columns, has_returns, has_quotes, allows_blanks, skips,
-                      chance.choice(MARKS))
+                      chance.choice(MARKS), allows_returns=chance.random() < 0.3)
     return with_widths(chance, dialect) if chance.random() < 0.4 else dialect
 
 
@@ -112,7 +112,8 @@ def random_row(chance: random.Random, dialect: Dialect, is_plain: bool) -> bytes
     if not is_plain and chance.random() < 0.1:
         count = max(count + chance.choice((-1, 1)), 0)
     cells = [random_cell(chance, dialect, is_plain, column) for column in range(count)]
-    end = b"\r\n" if dialect.has_returns != (chance.random() < (0 if is_plain else 0.03)) else b"\n"
+    has_other_end = chance.random() < (0.5 if dialect.allows_returns else 0 if is_plain else 0.03)
+    end = b"\r\n" if dialect.has_returns != has_other_end else b"\n"
     between = b"" if dialect.widths else bytes([dialect.separator])
     return between.join(cells) + (b"" if dialect.is_records else end)
 
@@ -181,6 +182,9 @@ def settings_by_separators() -> Iterator[Question]:
     yield setting(Dialect(ord("\n"), 1, allows_blanks=True), BYTE)
     yield setting(Dialect(ord("\n"), 2, allows_blanks=True), BYTE, SMALL)
     yield setting(Dialect(ord("\r"), 2, has_returns=True, allows_blanks=True), BYTE, SMALL)
+    yield setting(Dialect(ord("\r"), 2, allows_returns=True, allows_blanks=True), BYTE, SMALL)
+    for flags in (FLAGS[0], FLAGS[1], FLAGS[-1]):
+        yield setting(flags._replace(allows_returns=True), BYTE, SMALL)
     yield setting(Dialect(ord('"'), 2, has_returns=True, allows_blanks=True), BYTE, SMALL)
     yield setting(Dialect(ord(" "), 2, has_quotes=True, allows_blanks=True), SMALL, BYTE)
     yield setting(ALL_FLAGS, BYTE, None, is_last=False)

@@ -34,6 +34,7 @@ class Dialect(NamedTuple):
     # The widths of cells, where no separator parts them; and whether no line feed ends a row then.
     widths: Optional[Sequence[int]] = None
     is_records: bool = False
+    allows_returns: bool = False
 
     def size(self) -> int:
         """How many bytes a record has: as its widths say together, and one at least."""
@@ -126,10 +127,11 @@ def wants_return(text: bytes, row: Piece, dialect: Dialect) -> bool:
 
 
 def without_return(text: bytes, row: Piece, dialect: Dialect) -> Piece:
-    """The row's cells: without the return before its line feed, where one is asked for."""
-    if wants_return(text, row, dialect) and text[row.start:row.stop].endswith(b"\r"):
-        return Piece(row.start, row.stop - 1)
-    return row
+    """The row's cells: without the return before its line feed, where one is asked for or allowed."""
+    may_stand = dialect.allows_returns and not dialect.is_records and row.stop < len(text)
+    if not may_stand and not wants_return(text, row, dialect):
+        return row
+    return Piece(row.start, row.stop - text[row.start:row.stop].endswith(b"\r"))
 
 
 def cells_by_widths(row: Piece, widths: Sequence[int]) -> List[Piece]:

@@ -100,6 +100,7 @@ impl How {
         Dialect {
             layout,
             has_returns: self.has_returns,
+            allows_returns: false,
             has_quotes: self.has_quotes,
             allows_blanks: self.allows_blanks,
             skips_empty_rows: self.skips_empty_rows,

@@ -152,7 +152,7 @@ last_bytes byte kept size =
     ∙ ap (λ zeros. nat_lt byte 8 && zeros) (in_two_parts (at 0 ∷ at 1 ∷ at 2 ∷ at 3 ∷ at 4 ∷ []) (at 5 ∷ at 6 ∷ at 7 ∷ at 8 ∷ at 9 ∷ at 10 ∷ at 11 ∷ at 12 ∷ []) ∙ ap are_zeros (by_places kept 13 size))
 
 -- bytes that are those of an array of zeros are 0
-abbrev zeros : ℕ → List ℕ
+abbrev pub zeros : ℕ → List ℕ
 zeros zero = []
 zeros (suc count) = 0 ∷ zeros count
 
@@ -160,9 +160,8 @@ all_zeros : (bytes : List ℕ) → pointwise nat_eq bytes (zeros (length bytes))
 all_zeros [] = refl
 all_zeros (byte ∷ bytes) = ap (λ b. nat_eq byte 0 && b) (all_zeros bytes)
 
-pub ten_zeros : (bytes : List ℕ) → length bytes ≡ 10
-    → pointwise nat_eq bytes (0 ∷ 0 ∷ 0 ∷ 0 ∷ 0 ∷ 0 ∷ 0 ∷ 0 ∷ 0 ∷ 0 ∷ []) ≡ are_zeros bytes
-ten_zeros bytes size =
+pub so_many_zeros : (count : ℕ) (bytes : List ℕ) → length bytes ≡ count → pointwise nat_eq bytes (zeros count) ≡ are_zeros bytes
+so_many_zeros count bytes size =
     subst (λ n. pointwise nat_eq bytes (zeros n) ≡ are_zeros bytes) size (all_zeros bytes)
 
 -- a byte below 8 that has none of three bits is 0

@@ -193,6 +193,7 @@ abbrev pub dialect_with : TableFields → Layout → Dialect
 dialect_with table layout = record {
   layout = layout;
   has_returns = flag table.has_returns;
+  allows_returns = flag table.allows_returns;
   has_quotes = flag table.has_quotes;
   allows_blanks = flag table.allows_blanks;
   skips_empty_rows = flag table.skips_empty_rows;

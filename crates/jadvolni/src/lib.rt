@@ -8,6 +8,7 @@ mod coded_columns;
 pub mod columns;
 pub mod fixed;
 pub mod fixed_calls;
+pub mod fold;
 pub mod format;
 pub mod fronts;
 pub mod halves;

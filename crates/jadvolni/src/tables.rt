@@ -19,16 +19,17 @@ pub struct TableFields<'a> {
     pub allows_blanks: u8,
     pub skips_empty_rows: u8,
     pub is_records: u8,
-    pub reserved: [u8; 10],
+    pub allows_returns: u8,
+    pub reserved: [u8; 9],
     pub missing: &'a [u8],
     pub widths: &'a [usize],
 }
 
 // Whether the bytes that are kept for later versions are 0.
-fn are_zeros(bytes: [u8; 10]) -> bool
+fn are_zeros(bytes: [u8; 9]) -> bool
     ensures { result ≡ are_zeros bytes }
 {
-    bytes == [0; 10]
+    bytes == [0; 9]
 }
 
 // How the cells of a row are found, where a table has so many columns, if there is a way.
@@ -68,6 +69,7 @@ pub(crate) fn dialect_of<'a>(table: &TableFields<'a>, columns: usize) -> Option<
     Some(Dialect {
         layout,
         has_returns: table.has_returns != 0,
+        allows_returns: table.allows_returns != 0,
         has_quotes: table.has_quotes != 0,
         allows_blanks: table.allows_blanks != 0,
         skips_empty_rows: table.skips_empty_rows != 0,

@@ -21,6 +21,7 @@ abbrev pub plain : ℕ → Bool → Dialect
 plain columns has_returns = record {
   layout = Separated 44 columns;
   has_returns = has_returns;
+  allows_returns = false;
   has_quotes = false;
   allows_blanks = false;
   skips_empty_rows = false;

@@ -13,6 +13,8 @@ pub mod ColumnTables
 pub mod ColumnsInParts
 pub mod EndLooks
 pub mod EndedCells
+pub mod FoldRows
+pub mod FoldSteps
 pub mod KindRows
 pub mod LineSteps
 pub mod Looks
@@ -31,6 +33,7 @@ pub mod QuotesUnread
 pub mod ReadAlone
 pub mod RecordRows
 pub mod RecordSteps
+pub mod ReturnRows
 pub mod RowSteps
 pub mod RowsInParts
 pub mod SeenBytes

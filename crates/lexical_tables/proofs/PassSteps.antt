@@ -1,5 +1,5 @@
 -- A row whose cells are found in one pass, from what is left of its text on.
-use Rattle.std.proofs.Common.{◌≡◌, ◌≢◌, ◌∙◌, ℕ, zero, suc, ◌+◌, ◌-◌, ◌<◌, ◌≤◌, ◌&&◌, ◌==◌, List, [], ◌∷◌, length, take, drop, get_or, get_or-drop, length-drop, length-take-le, Bool, true, false, not, cond, eqb, eq-eqb, Option, Some, None, refl, ap, ap₂, sym, subst, arith, inl, inr, ◌⊎◌}
+use Rattle.std.proofs.Common.{◌≡◌, ◌≢◌, ◌∙◌, ℕ, zero, suc, ◌+◌, ◌-◌, ◌<◌, ◌≤◌, ◌&&◌, ◌||◌, ◌==◌, List, [], ◌∷◌, length, take, drop, get_or, get_or-drop, length-drop, length-take-le, Bool, true, false, not, cond, eqb, eq-eqb, Option, Some, None, refl, ap, ap₂, sym, subst, arith, inl, inr, ◌⊎◌}
 use Rattle.std.specs.Prelude.{is_none, nat_lt}
 use Rattle.std.proofs.lemmas.Bool.{le-ltb, lt-ltb, ne_eqb}
 use Rattle.std.proofs.lemmas.Bool.Decides.{eqb_tells}
@@ -9,7 +9,7 @@ use Rattle.lexical_tables.specs.ByColumn.{answer_at, cells_left, end_fault, faul
 use Rattle.lexical_tables.specs.Ends.{AreEndsIf}
 use Rattle.lexical_tables.specs.Quotes.{length_outside, pieces_outside}
 use Rattle.lexical_tables.specs.RowSoFar.{IsMarked, IsOnRow, cells_behind}
-use Rattle.lexical_tables.specs.Rows.{RowView, behind_piece, carriage_return, ends_in, first_piece, first_row, has_lines, is_ended, line_feed, row_of}
+use Rattle.lexical_tables.specs.Rows.{RowView, behind_piece, carriage_return, ends_in, first_piece, first_row, has_lines, is_ended, line_feed, row_of, takes_returns}
 use Rattle.lexical_tables.specs.Targets.{TargetView}
 use Rattle.lexical_tables.specs.declared.answers.CellFault.{CellFault}
 use Rattle.lexical_tables.specs.declared.answers.CellFault.TheVariants.{MissingReturn, TooFewCells, TooManyCells}
@@ -36,15 +36,27 @@ pub record RowText (d : Dialect) (start : ℕ) (text : List ℕ) : Type 0 where
   pub text_is : (first_row d start text).text ≡ take size text
   pub all : (size ≡ length_outside d.has_quotes line_feed text)
       ⊎ ((size + 1 ≡ length_outside d.has_quotes line_feed text) × (get_or text size 0 ≡ carriage_return)
-      × (d.has_returns ≡ true))
+      × (takes_returns d ≡ true))
 
 and_both : (a b : Bool) → (a && b) ≡ true → (a ≡ true) × (b ≡ true)
 and_both true b both = (refl, both)
 and_both false b both = absurd cc
 
+or_neither : (a b : Bool) → (a || b) ≡ false → a ≡ false
+or_neither true b none = none
+or_neither false b none = refl
+
+lacks : (asks now : Bool) {then : Bool} → now ≡ then → ((asks && true) && now) ≡ (asks && then)
+lacks true now same = same
+lacks false now same = refl
+
 module _ (d : Dialect) (s : ℕ) (marked : IsMarked d s) (start : ℕ) (text : List ℕ) where
   abbrev line_length : ℕ
   line_length = length_outside d.has_quotes line_feed text
+
+  -- whether a return may end a line
+  abbrev takes : Bool
+  takes = takes_returns d
 
   line_low : line_length ≤ length text
   line_low = outside_within d.has_quotes line_feed text
@@ -54,11 +66,11 @@ module _ (d : Dialect) (s : ℕ) (marked : IsMarked d s) (start : ℕ) (text : L
 
   -- the first row, as a line
   line_row : first_row d start text
-      ≡ row_of d.has_returns (start + length text) (record { start = start; text = take line_length text })
+      ≡ row_of takes d.has_returns (start + length text) (record { start = start; text = take line_length text })
   line_row = separated_is d.layout s marked.parts
-      (λ l. row_of (has_lines l && d.has_returns) (start + length text)
+      (λ l. row_of (has_lines l && takes) (has_lines l && d.has_returns) (start + length text)
       (record { start = start; text = first_piece l d.has_quotes text })
-      ≡ row_of d.has_returns (start + length text) (record { start = start; text = take line_length text }))
+      ≡ row_of takes d.has_returns (start + length text) (record { start = start; text = take line_length text }))
       (λ columns. refl)
 
   -- what stands behind it
@@ -96,7 +108,7 @@ module _ (d : Dialect) (s : ℕ) (marked : IsMarked d s) (start : ℕ) (text : L
 
   -- whether its return is none of the row's bytes
   abbrev drops_return : Bool
-  drops_return = (d.has_returns && is_ended (start + length text) line) && ends_in carriage_return (take line_length text)
+  drops_return = (takes && is_ended (start + length text) line) && ends_in carriage_return (take line_length text)
 
   abbrev without_return : Bool → List ℕ
   without_return drops = cond drops (take (length (take line_length text) - 1) (take line_length text)) (take line_length text)
@@ -111,7 +123,7 @@ module _ (d : Dialect) (s : ℕ) (marked : IsMarked d s) (start : ℕ) (text : L
         all = inl refl;
       }
       by_return true is =
-          let asked = and_both (d.has_returns && is_ended (start + length text) line)
+          let asked = and_both (takes && is_ended (start + length text) line)
           (ends_in carriage_return (take line_length text)) is in
           let ends = line_ends asked.1 in
           record {
@@ -123,7 +135,7 @@ module _ (d : Dialect) (s : ℕ) (marked : IsMarked d s) (start : ℕ) (text : L
             all = inr (
               omega (arith, ends.0),
               ends.1,
-              (and_both d.has_returns (is_ended (start + length text) line) asked.0).0,
+              (and_both takes (is_ended (start + length text) line) asked.0).0,
             );
           }
 
@@ -158,7 +170,7 @@ module _ (d : Dialect) (s : ℕ) (marked : IsMarked d s) (start : ℕ) (text : L
     ]
       where
         by_order : ((eqb passed line_length ≡ true) × (passed ≡ line_length)) ⊎ ((eqb passed line_length ≡ false) × (passed ≢ line_length))
-            → (row_text.size + 1 ≡ line_length) × (get_or text row_text.size 0 ≡ carriage_return) × (d.has_returns ≡ true)
+            → (row_text.size + 1 ≡ line_length) × (get_or text row_text.size 0 ≡ carriage_return) × (takes ≡ true)
             → passed ≤ row_text.size
         by_order (inr other) less = omega (arith, other.1, less.0, here.line)
         by_order (inl same) less =
@@ -210,7 +222,7 @@ module _ (d : Dialect) (s : ℕ) (marked : IsMarked d s) (start : ℕ) (text : L
       ]
         where
           by_order : ((eqb r row_left ≡ true) × (r ≡ row_left)) ⊎ ((eqb r row_left ≡ false) × (r ≢ row_left))
-              → (row_text.size + 1 ≡ line_length) × (get_or text row_text.size 0 ≡ carriage_return) × (d.has_returns ≡ true)
+              → (row_text.size + 1 ≡ line_length) × (get_or text row_text.size 0 ≡ carriage_return) × (takes ≡ true)
               → r < row_left
           by_order (inr other) less = omega (arith, other.1, less.0, here.line, before, passed_low)
           by_order (inl same) less =
@@ -273,9 +285,9 @@ module _ (d : Dialect) (s : ℕ) (marked : IsMarked d s) (start : ℕ) (text : L
     -- ---- the last cell, which a line feed ends
 
     module _ (r size : ℕ) (room : r + 17 ≤ length left) (line_is : length_outside d.has_quotes line_feed left ≡ r)
-        (low : size ≤ r) (whole : d.has_returns ≡ false → size ≡ r)
-        (bare : d.has_returns ≡ true → size ≡ r → 0 < r → get_or left (r - 1) 0 ≢ carriage_return)
-        (returned : size ≢ r → (size + 1 ≡ r) × (get_or left size 0 ≡ carriage_return) × (d.has_returns ≡ true)) where
+        (low : size ≤ r) (whole : takes ≡ false → size ≡ r)
+        (bare : takes ≡ true → size ≡ r → 0 < r → get_or left (r - 1) 0 ≢ carriage_return)
+        (returned : size ≢ r → (size + 1 ≡ r) × (get_or left size 0 ≡ carriage_return) × (takes ≡ true)) where
       line_at : line_length ≡ passed + r
       line_at = here.line ∙ ap (λ k. passed + k) line_is
 
@@ -284,17 +296,17 @@ module _ (d : Dialect) (s : ℕ) (marked : IsMarked d s) (start : ℕ) (text : L
           (omega (arith, line_size, line_at, room, here.within))
 
       -- no return stands there
-      no_return : size ≡ r → d.has_returns ≡ true → ends_in carriage_return (take line_length text) ≡ false
-      no_return same asks = by_test (ends_in carriage_return (take line_length text)) refl
+      no_return : size ≡ r → takes ≡ true → ends_in carriage_return (take line_length text) ≡ false
+      no_return same may = by_test (ends_in carriage_return (take line_length text)) refl
         where
           by_zero : (n : ℕ) → r ≡ n → get_or text (line_length - 1) 0 ≡ carriage_return → 0 < line_length → ⊥
           by_zero zero none is some =
               let at : line_length - 1 ≡ passed - 1 = omega (arith, line_at, none) in
-              marked.no_return asks
+              marked.no_return may
               (sym (here.behind_separator (omega (arith, line_at, none, some))) ∙ ap (λ k. get_or text k 0) (sym at) ∙ is)
           by_zero (suc n) more is some =
               let at : passed + (r - 1) ≡ line_length - 1 = omega (arith, line_at, more) in
-              bare asks same (omega (arith, more)) (byte_left (r - 1) ∙ ap (λ k. get_or text k 0) at ∙ is)
+              bare may same (omega (arith, more)) (byte_left (r - 1) ∙ ap (λ k. get_or text k 0) at ∙ is)
 
           by_test : (t : Bool) → ends_in carriage_return (take line_length text) ≡ t → t ≡ false
           by_test false is = refl
@@ -311,39 +323,42 @@ module _ (d : Dialect) (s : ℕ) (marked : IsMarked d s) (start : ℕ) (text : L
           ∙ ap (λ k. get_or text k 0) (sym at) ∙ sym (byte_left size) ∙ is)
           ∙ ap (λ t. t && true) (lt-ltb 0 line_length some)
 
-      abbrev as_row : Bool → Bool → RowView
-      as_row asks returns = record {
+      abbrev row_by : Bool → Bool → Bool → RowView
+      row_by may asks returns = record {
         start = start;
-        text = cond (asks && returns) (take (length (take line_length text) - 1) (take line_length text)) (take line_length text);
+        text = cond (may && returns) (take (length (take line_length text) - 1) (take line_length text)) (take line_length text);
         lacks_return = asks && not returns;
       }
 
       -- the row, by how many bytes its last cell has
       pub row_is : record { start = start; text = take (passed + size) text; lacks_return = d.has_returns && (size == r) }
           ≡ first_row d start text
-      row_is = sym (line_row ∙ ap (λ t. as_row (d.has_returns && t) (ends_in carriage_return (take line_length text))) ended
-          ∙ by_returns d.has_returns refl (eqb_tells size r))
+      row_is = sym (line_row
+          ∙ ap (λ t. row_by (takes && t) (d.has_returns && t) (ends_in carriage_return (take line_length text))) ended
+          ∙ by_returns takes d.has_returns refl (or_neither d.has_returns d.allows_returns) (eqb_tells size r))
         where
-          by_returns : (h : Bool) → d.has_returns ≡ h
+          by_returns : (may asks : Bool) → takes ≡ may → (may ≡ false → asks ≡ false)
               → ((eqb size r ≡ true) × (size ≡ r)) ⊎ ((eqb size r ≡ false) × (size ≢ r))
-              → as_row (h && true) (ends_in carriage_return (take line_length text))
-              ≡ record { start = start; text = take (passed + size) text; lacks_return = h && (size == r) }
-          by_returns false asks order =
-              let same = whole asks in
+              → row_by (may && true) (asks && true) (ends_in carriage_return (take line_length text))
+              ≡ record { start = start; text = take (passed + size) text; lacks_return = asks && (size == r) }
+          by_returns false true is none order = let never = none refl in absurd cc
+          by_returns false false is none order =
+              let same = whole is in
               let at : line_length ≡ passed + size = omega (arith, line_at, same) in
               ap (λ n. record { start = start; text = take n text; lacks_return = false }) at
-          by_returns true asks (inl same) =
+          by_returns true asks is none (inl same) =
               let at : line_length ≡ passed + size = omega (arith, line_at, same.1) in
-              ap (as_row true) (no_return same.1 asks)
-              ∙ ap₂ (λ n t. record { start = start; text = take n text; lacks_return = t }) at (sym same.0)
-          by_returns true asks (inr other) =
+              ap (row_by true (asks && true)) (no_return same.1 is)
+              ∙ ap₂ (λ n t. record { start = start; text = take n text; lacks_return = t }) at (lacks asks true (sym same.0))
+          by_returns true asks is none (inr other) =
               let less = returned other.1 in
               let at : line_length - 1 ≡ passed + size = omega (arith, line_at, less.0) in
-              ap (as_row true) (a_return less.0 less.1)
-              ∙ ap (λ n. record { start = start; text = take (n - 1) (take line_length text); lacks_return = false }) line_size
-              ∙ ap (λ l. record { start = start; text = l; lacks_return = false })
+              ap (row_by true (asks && true)) (a_return less.0 less.1)
+              ∙ ap (λ n. record { start = start; text = take (n - 1) (take line_length text); lacks_return = (asks && true) && false })
+              line_size
+              ∙ ap (λ l. record { start = start; text = l; lacks_return = (asks && true) && false })
               (take-take (line_length - 1) line_length text (omega arith))
-              ∙ ap₂ (λ n t. record { start = start; text = take n text; lacks_return = t }) at (sym other.0)
+              ∙ ap₂ (λ n t. record { start = start; text = take n text; lacks_return = t }) at (lacks asks false (sym other.0))
 
       -- it is all that is left
       pub cells_end : r ≤ length_outside d.has_quotes s left → (column : ℕ)
@@ -380,7 +395,7 @@ too_many columns index column place row same =
 
 -- a row lacks its return where the line feed stands behind its last cell
 pub no_return_at : (d : Dialect) (left : List ℕ) (r size : ℕ) → get_or left r 0 ≡ line_feed
-    → (size ≢ r → (size + 1 ≡ r) × (get_or left size 0 ≡ carriage_return) × (d.has_returns ≡ true))
+    → (size ≢ r → (size + 1 ≡ r) × (get_or left size 0 ≡ carriage_return) × (takes_returns d ≡ true))
     → (d.has_returns && (get_or left size 0 == line_feed)) ≡ (d.has_returns && (size == r))
 no_return_at d left r size is returned = ap (λ t. d.has_returns && t) (elim (eqb_tells size r) [
   | inl same ↦ eq-eqb (get_or left size 0) line_feed (ap (λ k. get_or left k 0) same.1 ∙ is) ∙ sym same.0

@@ -6,7 +6,7 @@ use Rattle.std.proofs.lemmas.List.{drop-drop}
 use Rattle.lexical_fields.specs.Fields.{fields_from}
 use Rattle.lexical_fields.proofs.ColumnSteps.{tail_goes}
 use Rattle.lexical_tables.specs.Quotes.{as_long_as, fields_outside, hidden, length_outside}
-use Rattle.lexical_tables.specs.Rows.{FirstCounts, RowView, asks_returns, behind_piece, carriage_return, counts, ends_in, first_piece, first_row, line_feed, next_start, pieces_from, record_size, row_of, rows_from}
+use Rattle.lexical_tables.specs.Rows.{FirstCounts, RowView, as_row, behind_piece, carriage_return, counts, ends_in, first_piece, first_row, has_lines, line_feed, next_start, pieces_from, record_size, rows_from, takes_returns}
 use Rattle.lexical_tables.specs.declared.dialect.Dialect.{Dialect}
 use Rattle.lexical_tables.specs.declared.dialect.Layout.{Layout}
 use Rattle.lexical_tables.specs.declared.dialect.Layout.TheVariants.{Records, Separated, Widths}
@@ -23,10 +23,10 @@ moved_test bytes a b =
 
 -- where a line stands doesn't matter to whether it counts
 counts_anywhere : (d : Dialect) (place end : ℕ) (line : List ℕ)
-    → counts d (row_of (asks_returns d) (place + end) (record { start = place; text = line }))
-    ≡ counts d (row_of (asks_returns d) (0 + end) (record { start = 0; text = line }))
+    → counts d (as_row d (place + end) (record { start = place; text = line }))
+    ≡ counts d (as_row d (0 + end) (record { start = 0; text = line }))
 counts_anywhere d place end line =
-    ap (λ t. not d.skips_empty_rows || nat_lt 0 (length (cond ((asks_returns d && t) && ends_in carriage_return line)
+    ap (λ t. not d.skips_empty_rows || nat_lt 0 (length (cond (((has_lines d.layout && takes_returns d) && t) && ends_in carriage_return line)
     (take (length line - 1) line) line)))
     (moved_test place (length line) end ∙ sym (moved_test 0 (length line) end))
 
@@ -98,11 +98,11 @@ module _ (d : Dialect) (place : ℕ) (rest behind : List ℕ) (some : 0 < length
       omega (arith, ap length back, behind_less d.layout d.has_quotes rest) in
       let end : place + length rest ≡ at + length behind = omega arith in
       let line = first_piece d.layout d.has_quotes rest in
-      ap (λ l. filter (counts d) (map (row_of (asks_returns d) (place + length rest)) l))
+      ap (λ l. filter (counts d) (map (as_row d (place + length rest)) l))
       (next_piece d.layout d.has_quotes place rest behind some back)
       ∙ ap (λ e. cond (counts d (first_row d place rest))
-      (first_row d place rest ∷ filter (counts d) (map (row_of (asks_returns d) e) (pieces_from d.layout d.has_quotes at behind)))
-      (filter (counts d) (map (row_of (asks_returns d) e) (pieces_from d.layout d.has_quotes at behind)))) end
+      (first_row d place rest ∷ filter (counts d) (map (as_row d e) (pieces_from d.layout d.has_quotes at behind)))
+      (filter (counts d) (map (as_row d e) (pieces_from d.layout d.has_quotes at behind)))) end
       ∙ ap (λ t. cond t (first_row d place rest ∷ rows_behind) rows_behind)
       (counts_anywhere d place (length rest) line ∙ is)
 
@@ -118,7 +118,7 @@ module _ (d : Dialect) (place : ℕ) (rest behind : List ℕ) (some : 0 < length
 -- no byte is no row
 pub no_rows : (d : Dialect) (place : ℕ) → rows_from d place [] ≡ []
 no_rows d place =
-    ap (λ l. filter (counts d) (map (row_of (asks_returns d) (place + 0)) l)) (no_pieces d.layout d.has_quotes place)
+    ap (λ l. filter (counts d) (map (as_row d (place + 0)) l)) (no_pieces d.layout d.has_quotes place)
 
 -- what is left begins where its first row does
 pub start_of_rows : (d : Dialect) (text rest : List ℕ) → FirstCounts d rest

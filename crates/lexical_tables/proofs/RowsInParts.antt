@@ -12,7 +12,7 @@ use Rattle.lexical_fields.proofs.FieldsInParts.{either, here, on, whole_here, wh
 use Rattle.lexical_fields.proofs.MovedFields.{fields_moved, moved}
 use Rattle.lexical_tables.specs.Parts.{whole_lines, whole_pieces, whole_rows}
 use Rattle.lexical_tables.specs.Quotes.{as_long_as, fields_outside, seen}
-use Rattle.lexical_tables.specs.Rows.{RowView, asks_returns, carriage_return, counts, ends_in, has_lines, line_feed, pieces_from, record_size, records_from, row_of, rows}
+use Rattle.lexical_tables.specs.Rows.{RowView, as_row, carriage_return, counts, ends_in, has_lines, line_feed, pieces_from, record_size, records_from, row_of, rows, takes_returns}
 use Rattle.lexical_tables.specs.declared.dialect.Dialect.{Dialect}
 use Rattle.lexical_tables.specs.declared.dialect.Layout.{Layout}
 use Rattle.lexical_tables.specs.declared.dialect.Layout.TheVariants.{Records, Separated, Widths}
@@ -93,12 +93,12 @@ long_before end (line ∷ more) text all =
 -- ---- lines as rows
 
 -- a line as a row, by whether a line feed is behind it
-abbrev row_by : Bool → FieldView → Bool → RowView
-row_by has_returns line ended = record {
+abbrev row_by : Bool → Bool → FieldView → Bool → RowView
+row_by takes asks line ended = record {
   start = line.start;
-  text = cond ((has_returns && ended) && ends_in carriage_return line.text)
+  text = cond ((takes && ended) && ends_in carriage_return line.text)
       (take (length line.text - 1) line.text) line.text;
-  lacks_return = (has_returns && ended) && not (ends_in carriage_return line.text);
+  lacks_return = (asks && ended) && not (ends_in carriage_return line.text);
 }
 
 -- a row that starts so many bytes further behind
@@ -106,24 +106,24 @@ abbrev pub row_behind : ℕ → RowView → RowView
 row_behind bytes row = record { start = bytes + row.start; text = row.text; lacks_return = row.lacks_return }
 
 -- lines that end before two places are the same rows of texts that end there
-rows_before : (r : Bool) (end other : ℕ) (lines : List FieldView) → AllBefore end lines → end ≤ other
-    → map (row_of r other) lines ≡ map (row_of r end) lines
-rows_before r end other [] all low = refl
-rows_before r end other (line ∷ more) all low =
+rows_before : (t r : Bool) (end other : ℕ) (lines : List FieldView) → AllBefore end lines → end ≤ other
+    → map (row_of t r other) lines ≡ map (row_of t r end) lines
+rows_before t r end other [] all low = refl
+rows_before t r end other (line ∷ more) all low =
     let place = line.start + length line.text in
     ap₂ (λ row rest. row ∷ rest)
-    (ap (row_by r line) (lt-ltb place other (omega (arith, all.0)) ∙ sym (lt-ltb place end all.0)))
-    (rows_before r end other more all.1 low)
+    (ap (row_by t r line) (lt-ltb place other (omega (arith, all.0)) ∙ sym (lt-ltb place end all.0)))
+    (rows_before t r end other more all.1 low)
 
-rows_moved : (r : Bool) (bytes end : ℕ) (lines : List FieldView)
-    → map (row_of r (bytes + end)) (map (moved bytes) lines) ≡ map (row_behind bytes) (map (row_of r end) lines)
-rows_moved r bytes end [] = refl
-rows_moved r bytes end (line ∷ more) =
+rows_moved : (t r : Bool) (bytes end : ℕ) (lines : List FieldView)
+    → map (row_of t r (bytes + end)) (map (moved bytes) lines) ≡ map (row_behind bytes) (map (row_of t r end) lines)
+rows_moved t r bytes end [] = refl
+rows_moved t r bytes end (line ∷ more) =
     let place = line.start + length line.text in
     let at : bytes + line.start + length line.text ≡ bytes + place = omega arith in
     ap₂ (λ row rest. row ∷ rest)
-    (ap (row_by r (moved bytes line)) (ap (λ k. nat_lt k (bytes + end)) at ∙ moved_test bytes place end))
-    (rows_moved r bytes end more)
+    (ap (row_by t r (moved bytes line)) (ap (λ k. nat_lt k (bytes + end)) at ∙ moved_test bytes place end))
+    (rows_moved t r bytes end more)
 
 -- the fields of a text that stands further behind
 pub long_moved : (size : ℕ) (fields : List FieldView) (text : List ℕ)
@@ -145,9 +145,9 @@ SplitsAt made part more size =
     made (part ++ more) ≡ made (take size part) ++ map (row_behind size) (made (drop size part ++ more))
 
 -- the lines of a text that is cut
-lines_split : (q r : Bool) (part more : List ℕ) (size : ℕ) → size ≡ whole_lines q part → size ≤ length part
-    → SplitsAt (λ text. map (row_of r (length text)) (fields_outside q line_feed 0 text)) part more size
-lines_split q r part more size is within =
+lines_split : (q t r : Bool) (part more : List ℕ) (size : ℕ) → size ≡ whole_lines q part → size ≤ length part
+    → SplitsAt (λ text. map (row_of t r (length text)) (fields_outside q line_feed 0 text)) part more size
+lines_split q t r part more size is within =
     let front = fields_outside q line_feed 0 (take size part) in
     let bytes = seen q line_feed part in
     let left = drop size part ++ more in
@@ -164,12 +164,12 @@ lines_split q r part more size is within =
     ++ fields_outside q line_feed (0 + n) (drop n part ++ more)) (sym is) (split_outside q line_feed 0 part more)
     ∙ ap (λ p. front ++ fields_outside q line_feed p left) (zero_add size ∙ add_zero size)
     ∙ ap (λ l. front ++ l) (sym (outside_moved q line_feed size 0 left)) in
-    ap (map (row_of r (length (part ++ more)))) cut
-    ∙ map-append (row_of r (length (part ++ more))) front (map (moved size) (fields_outside q line_feed 0 left))
+    ap (map (row_of t r (length (part ++ more)))) cut
+    ∙ map-append (row_of t r (length (part ++ more))) front (map (moved size) (fields_outside q line_feed 0 left))
     ∙ ap₂ (λ a b. a ++ b)
-    (rows_before r (length (take size part)) (length (part ++ more)) front ended (omega (arith, all, front_size)))
-    (ap (λ n. map (row_of r n) (map (moved size) (fields_outside q line_feed 0 left))) all
-    ∙ rows_moved r size (length left) (fields_outside q line_feed 0 left))
+    (rows_before t r (length (take size part)) (length (part ++ more)) front ended (omega (arith, all, front_size)))
+    (ap (λ n. map (row_of t r n) (map (moved size) (fields_outside q line_feed 0 left))) all
+    ∙ rows_moved t r size (length left) (fields_outside q line_feed 0 left))
   where
     zero_add : (n : ℕ) → 0 + n ≡ n
     zero_add n = omega arith
@@ -179,7 +179,7 @@ lines_split q r part more size is within =
 
 -- the records of a text that is cut
 records_split : (s : ℕ) → 0 < s → (end : ℕ) (part more : List ℕ) (size : ℕ) → size ≡ length part - length part % s
-    → SplitsAt (λ text. map (row_of false end) (records_from s 0 text)) part more size
+    → SplitsAt (λ text. map (row_of false false end) (records_from s 0 text)) part more size
 records_split s low end part more size is =
     let count = length part / s in
     let whole : size ≡ count * s = omega (arith, is, div-add-mod' (length part) s) in
@@ -189,20 +189,20 @@ records_split s low end part more size is =
     let cut : records_from s 0 (part ++ more) ≡ front ++ records_from s (0 + size) left =
     subst (λ n. records_from s 0 (part ++ more) ≡ records_from s 0 (take n part) ++ records_from s (0 + n) (drop n part ++ more))
     (sym whole) (split_records s low count 0 part more (omega (arith, div-add-mod' (length part) s))) in
-    ap (map (row_of false end)) (cut ∙ ap (λ p. front ++ records_from s p left) add
+    ap (map (row_of false false end)) (cut ∙ ap (λ p. front ++ records_from s p left) add
     ∙ ap (λ l. front ++ l) (sym (records_moved s size 0 left)))
-    ∙ map-append (row_of false end) front (map (moved size) (records_from s 0 left))
-    ∙ ap (λ l. map (row_of false end) front ++ l) (rows_moved false size end (records_from s 0 left))
+    ∙ map-append (row_of false false end) front (map (moved size) (records_from s 0 left))
+    ∙ ap (λ l. map (row_of false false end) front ++ l) (rows_moved false false size end (records_from s 0 left))
 
 -- the lines or records of a text as rows, also those that don't count
-abbrev pieces : Layout → Bool → Bool → List ℕ → List RowView
-pieces layout q r text = map (row_of (has_lines layout && r) (length text)) (pieces_from layout q 0 text)
+abbrev pieces : Layout → Bool → Bool → Bool → List ℕ → List RowView
+pieces layout q t r text = map (row_of (has_lines layout && t) (has_lines layout && r) (length text)) (pieces_from layout q 0 text)
 
-pieces_split : (layout : Layout) (q r : Bool) (part more : List ℕ) (size : ℕ) → size ≡ whole_pieces layout q part
-    → size ≤ length part → SplitsAt (pieces layout q r) part more size
-pieces_split (Separated s columns) q r part more size is within = lines_split q r part more size is within
-pieces_split (Widths widths) q r part more size is within = lines_split q r part more size is within
-pieces_split (Records widths) q r part more size is within =
+pieces_split : (layout : Layout) (q t r : Bool) (part more : List ℕ) (size : ℕ) → size ≡ whole_pieces layout q part
+    → size ≤ length part → SplitsAt (pieces layout q t r) part more size
+pieces_split (Separated s columns) q t r part more size is within = lines_split q t r part more size is within
+pieces_split (Widths widths) q t r part more size is within = lines_split q t r part more size is within
+pieces_split (Records widths) q t r part more size is within =
     records_split (record_size widths.now) (size_low widths.now) 0 part more size is
 
 -- the rows of a text that is cut
@@ -218,9 +218,13 @@ filter_behind d size (line ∷ more) = by_test (counts d line) (filter_behind d 
     by_test true same = ap (λ l. row_behind size line ∷ l) same
     by_test false same = same
 
-rows_are : (d : Dialect) (text : List ℕ) → rows d text ≡ filter (counts d) (pieces d.layout d.has_quotes d.has_returns text)
+-- the lines or records of a text as rows of a table
+abbrev pieces_of : Dialect → List ℕ → List RowView
+pieces_of d = pieces d.layout d.has_quotes (takes_returns d) d.has_returns
+
+rows_are : (d : Dialect) (text : List ℕ) → rows d text ≡ filter (counts d) (pieces_of d text)
 rows_are d text =
-    ap (λ end. filter (counts d) (map (row_of (asks_returns d) end) (pieces_from d.layout d.has_quotes 0 text))) (zero_add (length text))
+    ap (λ end. filter (counts d) (map (as_row d end) (pieces_from d.layout d.has_quotes 0 text))) (zero_add (length text))
   where
     zero_add : (n : ℕ) → 0 + n ≡ n
     zero_add n = omega arith
@@ -228,13 +232,13 @@ rows_are d text =
 pub rows_split : (d : Dialect) (part more : List ℕ) (size : ℕ) → size ≡ whole_rows d part → size ≤ length part
     → rows d (part ++ more) ≡ rows d (take size part) ++ map (row_behind size) (rows d (drop size part ++ more))
 rows_split d part more size is within =
-    let front = pieces d.layout d.has_quotes d.has_returns (take size part) in
+    let front = pieces_of d (take size part) in
     let left = drop size part ++ more in
     rows_are d (part ++ more)
-    ∙ ap (filter (counts d)) (pieces_split d.layout d.has_quotes d.has_returns part more size is within)
-    ∙ filter-append (counts d) front (map (row_behind size) (pieces d.layout d.has_quotes d.has_returns left))
+    ∙ ap (filter (counts d)) (pieces_split d.layout d.has_quotes (takes_returns d) d.has_returns part more size is within)
+    ∙ filter-append (counts d) front (map (row_behind size) (pieces_of d left))
     ∙ ap₂ (λ a b. a ++ b) (sym (rows_are d (take size part)))
-    (filter_behind d size (pieces d.layout d.has_quotes d.has_returns left) ∙ ap (map (row_behind size)) (sym (rows_are d left)))
+    (filter_behind d size (pieces_of d left) ∙ ap (map (row_behind size)) (sym (rows_are d left)))
 
 -- the whole rows of a text are some of its bytes
 fields_within : (s : ℕ) (text : List ℕ) → whole_fields s text ≤ length text

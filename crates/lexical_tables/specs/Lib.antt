@@ -3,6 +3,7 @@ pub mod ByColumn
 pub mod Cells
 pub mod Codes
 pub mod Ends
+pub mod Folded
 pub mod Header
 pub mod Looks
 pub mod OneColumn

@@ -6,7 +6,7 @@ use Rattle.lexical_tables.specs.ByColumn.{AreUsable, cell_answers, cells_left, c
 use Rattle.lexical_tables.specs.Cells.{Kind}
 use Rattle.lexical_tables.specs.Quotes.{length_outside, quote}
 use Rattle.lexical_tables.specs.Readings.{Value}
-use Rattle.lexical_tables.specs.Rows.{RowView, carriage_return, line_feed}
+use Rattle.lexical_tables.specs.Rows.{RowView, carriage_return, line_feed, takes_returns}
 use Rattle.lexical_tables.specs.Targets.{TargetView}
 use Rattle.lexical_tables.specs.declared.answers.CellFault.{CellFault}
 use Rattle.lexical_tables.specs.declared.answers.TableError.{TableError}
@@ -55,11 +55,11 @@ wrong_in (Ok found) = None
 wrong_in (Err error) = Some error
 
 -- One pass of marks finds the cells and the rows of a table: a separator parts the cells, which is no quote that has a
--- meaning, and no return that is asked for.
+-- meaning, and no return where one may end a row.
 pub record IsMarked (dialect : Dialect) (separator : ℕ) : Type 0 where
   pub parts : separator_of dialect.layout ≡ Some separator
   pub no_quote : dialect.has_quotes ≡ true → separator ≢ quote
-  pub no_return : dialect.has_returns ≡ true → separator ≢ carriage_return
+  pub no_return : takes_returns dialect ≡ true → separator ≢ carriage_return
 
 -- What is left of a text from a cell of its first row on.
 pub record IsOnRow (dialect : Dialect) (separator : ℕ) (text left : List ℕ) : Type 0 where

@@ -28,14 +28,15 @@ ends_in byte text = nat_lt 0 (length text) && (slice_index text (length text - 1
 abbrev pub is_ended : ℕ → FieldView → Bool
 is_ended end line = nat_lt (line.start + length line.text) end
 
--- A line as a row. With returns, the one in front of a line feed is none of its bytes.
-abbrev pub row_of : Bool → ℕ → FieldView → RowView
-row_of has_returns end line =
-    let asks = has_returns && is_ended end line in
+-- A line as a row. A return in front of a line feed is none of its bytes, if one may stand there, and lacks if one has to.
+abbrev pub row_of : Bool → Bool → ℕ → FieldView → RowView
+row_of takes_returns asks_returns end line =
+    let takes = takes_returns && is_ended end line in
+    let asks = asks_returns && is_ended end line in
     let returned = ends_in carriage_return line.text in
     record {
       start = line.start;
-      text = if asks && returned then take (length line.text - 1) line.text else line.text;
+      text = if takes && returned then take (length line.text - 1) line.text else line.text;
       lacks_return = asks && not returned;
     }
 
@@ -72,15 +73,24 @@ abbrev pub has_lines : Layout → Bool
 has_lines (Records widths) = false
 has_lines layout = true
 
+-- whether a return may stand in front of the line feed that ends a line
+abbrev pub takes_returns : Dialect → Bool
+takes_returns dialect = dialect.has_returns || dialect.allows_returns
+
 -- whether a return has to stand where a row ends
 abbrev pub asks_returns : Dialect → Bool
 asks_returns dialect = has_lines dialect.layout && dialect.has_returns
+
+-- a line or record, of a text that ends at a place, as a row
+abbrev pub as_row : Dialect → ℕ → FieldView → RowView
+as_row dialect =
+    row_of (has_lines dialect.layout && takes_returns dialect) (asks_returns dialect)
 
 -- ---- rows
 
 -- the first line or record of a text that stands at a place, as a row
 abbrev pub first_row : Dialect → ℕ → List ℕ → RowView
-first_row dialect place text = row_of (asks_returns dialect) (place + length text) (record {
+first_row dialect place text = as_row dialect (place + length text) (record {
   start = place;
   text = first_piece dialect.layout dialect.has_quotes text;
 })
@@ -92,7 +102,7 @@ counts dialect row = not dialect.skips_empty_rows || nat_lt 0 (length row.text)
 -- the rows of a text that stands at a place: its lines or records that count
 abbrev pub rows_from : Dialect → ℕ → List ℕ → List RowView
 rows_from dialect place text = filter (counts dialect)
-    (map (row_of (asks_returns dialect) (place + length text))
+    (map (as_row dialect (place + length text))
     (pieces_from dialect.layout dialect.has_quotes place text))
 
 -- the rows of a text

@@ -1,5 +1,8 @@
 //! How a table is written.
 
+ghost use Rattle.std.specs.Prelude.{◌≡◌};
+ghost use Rattle.lexical_tables.specs.Rows.{takes_returns};
+
 /// How rows and their cells are found.
 #[derive(Debug, Copy, Clone, PartialEq, Eq)]
 pub enum Layout<'a> {
@@ -40,6 +43,19 @@ pub struct Dialect<'a> {
     pub allows_blanks: bool,
     /// Whether a row that has no byte beside its return is none.
     pub skips_empty_rows: bool,
+    /// Whether a carriage return may stand before a line feed that ends a row: then it is no byte of the row. Any other is
+    /// a byte of its cell, as at the text's end. Where `has_returns` asks for one, this changes nothing.
+    pub allows_returns: bool,
     /// What stands for a missing number, in columns that have bits for it.
     pub missing: &'a [u8],
+}
+
+impl Dialect<'_> {
+    // Whether a return may stand in front of the line feed that ends a line. Why `|`: docs/DECISIONS.md, code.
+    #[inline(always)]
+    pub(crate) fn takes_returns(&self) -> bool
+        ensures { result ≡ takes_returns self.now }
+    {
+        self.has_returns | self.allows_returns
+    }
 }

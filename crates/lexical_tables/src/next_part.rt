@@ -23,18 +23,18 @@ pub(crate) struct Part<'a> {
     pub is_last: bool,
 }
 
-// How many bytes a row's last cell has that ends at a place: the return in front of it is none of them, where it is asked for.
+// How many bytes a row's last cell has that ends at a place: a return in front of it is none of them, if one may stand there.
 #[inline(always)]
-fn last_size(left: &[u8], end: usize, has_returns: bool) -> usize
+fn last_size(left: &[u8], end: usize, takes_returns: bool) -> usize
     requires end { end ≤ length left.now }
     ensures within { result ≤ end }
-    ensures cell { has_returns ≡ false → result ≡ end }
-    ensures bare { has_returns ≡ true → result ≡ end → 0 < end
+    ensures cell { takes_returns ≡ false → result ≡ end }
+    ensures bare { takes_returns ≡ true → result ≡ end → 0 < end
         → slice_index left.now (end - 1) ≢ carriage_return }
     ensures returned { result ≢ end → (result + 1 ≡ end)
-        × (slice_index left.now result ≡ carriage_return) × (has_returns ≡ true) }
+        × (slice_index left.now result ≡ carriage_return) × (takes_returns ≡ true) }
 {
-    if !has_returns {
+    if !takes_returns {
         return end;
     }
     if end == 0 {
@@ -103,7 +103,7 @@ pub(crate) fn next_part<'a>(
             is_last: false,
         };
     }
-    let size = last_size(left, end, dialect.has_returns);
+    let size = last_size(left, end, dialect.takes_returns());
     Part {
         size,
         behind,

@@ -34,7 +34,7 @@ pub(crate) fn marked_separator(text: &[u8], dialect: &Dialect<'_>) -> Option<u8>
     if dialect.has_quotes && separator == b'"' {
         return None;
     }
-    if dialect.has_returns && separator == b'\r' {
+    if dialect.takes_returns() && separator == b'\r' {
         return None;
     }
     Some(separator)

@@ -2,7 +2,7 @@
 
 ghost use Rattle.std.specs.Prelude.{◌≡◌, ◌+◌, ◌-◌, ◌≤◌, ◌<◌, ◌^◌, ℕ, min, length, take, drop};
 ghost use Rattle.lexical_tables.specs.Quotes.{length_outside};
-ghost use Rattle.lexical_tables.specs.Rows.{FirstCounts, behind_piece, ends_in, first_row, line_feed, record_size, row_of, rows_from, view_of_row};
+ghost use Rattle.lexical_tables.specs.Rows.{FirstCounts, behind_piece, ends_in, first_row, line_feed, record_size, row_of, rows_from, takes_returns, view_of_row};
 
 use crate::dialect::{Dialect, Layout};
 use crate::quotes::length_outside;
@@ -80,24 +80,25 @@ pub(crate) fn first_row<'a>(
         };
         return (row, behind);
     }
-    first_line(start, text, dialect.has_quotes, dialect.has_returns)
+    first_line(start, text, dialect)
 }
 
 // The first line of a text that starts at a place, as a row, and what is behind it.
 #[inline(always)]
-fn first_line(start: usize, text: &[u8], has_quotes: bool, has_returns: bool) -> (Row<'_>, &[u8])
+fn first_line<'a>(start: usize, text: &'a [u8], dialect: &Dialect<'_>) -> (Row<'a>, &'a [u8])
     requires some { 0 < length text.now }
-    ensures row { view_of_row result.0 ≡ row_of has_returns (start + length text.now) (record {
-      start = start;
-      text = take (length_outside has_quotes line_feed text.now) text.now;
-    }) }
+    ensures row { view_of_row result.0 ≡ row_of (takes_returns dialect.now)
+        dialect.now.has_returns (start + length text.now) (record {
+          start = start;
+          text = take (length_outside dialect.now.has_quotes line_feed text.now) text.now;
+        }) }
     ensures behind { result.1.now
-        ≡ drop (length_outside has_quotes line_feed text.now + 1) text.now }
+        ≡ drop (length_outside dialect.now.has_quotes line_feed text.now + 1) text.now }
     ensures within { length result.0.text.now ≤ length text.now }
     ensures front { result.0.text.now ≡ take (length result.0.text.now) text.now }
     ensures shorter { length result.1.now < length text.now }
 {
-    let (line, behind) = split(text, b'\n', has_quotes);
+    let (line, behind) = split(text, b'\n', dialect.has_quotes);
     if line.len() == text.len() {
         let row = Row {
             start,
@@ -106,7 +107,7 @@ fn first_line(start: usize, text: &[u8], has_quotes: bool, has_returns: bool) ->
         };
         return (row, behind);
     }
-    if has_returns && ends_in(line, b'\r') {
+    if dialect.takes_returns() && ends_in(line, b'\r') {
         let row = Row {
             start,
             text: &line[..line.len() - 1],
@@ -117,7 +118,7 @@ fn first_line(start: usize, text: &[u8], has_quotes: bool, has_returns: bool) ->
         let row = Row {
             start,
             text: line,
-            lacks_return: has_returns,
+            lacks_return: dialect.has_returns,
         };
         (row, behind)
     }

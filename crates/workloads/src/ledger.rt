@@ -21,6 +21,7 @@ pub fn separated(columns: usize, has_returns: bool) -> Dialect<'static> {
             columns,
         },
         has_returns,
+        allows_returns: false,
         has_quotes: false,
         allows_blanks: false,
         skips_empty_rows: false,

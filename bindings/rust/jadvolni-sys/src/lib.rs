@@ -67,7 +67,8 @@ pub struct jadvolni_table {
     pub allows_blanks: u8,
     pub skips_empty_rows: u8,
     pub is_records: u8,
-    pub reserved: [u8; 10],
+    pub allows_returns: u8,
+    pub reserved: [u8; 9],
     pub missing: *const c_char,
     pub missing_len: usize,
     pub widths: *const usize,
@@ -334,4 +335,5 @@ extern "C" {
     pub fn jadvolni_parse_isize_fixed_front(text: *const c_char, len: usize, fixed: *const jadvolni_fixed, value: *mut isize) -> jadvolni_result;
     pub fn jadvolni_line_column(text: *const c_char, len: usize, place: usize) -> jadvolni_position;
     pub fn jadvolni_field_start(text: *const c_char, len: usize, separator: u8) -> usize;
+    pub fn jadvolni_fold_quotes(text: *const c_char, len: usize, folded: *mut c_char, capacity: usize) -> usize;
 }

@@ -17,6 +17,7 @@ fn lines() -> Dialect<'static> {
             columns: 1,
         },
         has_returns: false,
+        allows_returns: false,
         has_quotes: false,
         allows_blanks: false,
         skips_empty_rows: true,

@@ -9,7 +9,7 @@ use lexical_parse_integer::format::STANDARD;
 use lexical_parse_integer::{Error, Options, options};
 use lexical_tables::{
     CellFault, CellText, Dialect, Layout, Numbers, Table, TableColumn, TableError, Target, after_lines,
-    put_cell, put_standard_cell, read_columns, read_columns_part,
+    fold_quotes, put_cell, put_standard_cell, read_columns, read_columns_part,
 };
 use std::alloc::{AllocError, Global};
 use std::slice;
@@ -26,6 +26,7 @@ fn pairs(has_returns: bool) -> Dialect<'static> {
             columns: 2,
         },
         has_returns,
+        allows_returns: false,
         has_quotes: false,
         allows_blanks: false,
         skips_empty_rows: false,
@@ -45,6 +46,11 @@ fn fault_in(row: usize, column: usize, fault: CellFault) -> Answer {
 
 // What is read of a text whose first column is read, in room for three rows, and what that then holds.
 fn read(text: &[u8], has_returns: bool) -> (Answer, [i16; 3]) {
+    read_under(text, &pairs(has_returns))
+}
+
+// The same of a table that is written so.
+fn read_under(text: &[u8], dialect: &Dialect<'_>) -> (Answer, [i16; 3]) {
     let mut numbers = [9; 3];
     let mut target = Some(Target {
         format: STANDARD,
@@ -52,7 +58,7 @@ fn read(text: &[u8], has_returns: bool) -> (Answer, [i16; 3]) {
         present: None,
     });
     let targets = slice::from_mut(&mut target);
-    let answer = read_columns(text, &pairs(has_returns), &options::STANDARD, 3, targets);
+    let answer = read_columns(text, dialect, &options::STANDARD, 3, targets);
     (answer, numbers)
 }
 
@@ -91,6 +97,27 @@ fn first_wrong_cells(rt: HostRuntime) {
 }
 
 #[test]
+fn rows_may_end_either_way(rt: HostRuntime) {
+    let dialect = Dialect {
+        allows_returns: true,
+        ..pairs(false)
+    };
+    let rows = read_under(b"1,2\r\n-30,x\n7,\r\n", &dialect);
+    answers(&rt, rows, (table(3, 15), [1, -30, 7]));
+    let within = fault_in(1, 0, CellFault::NotNumber(Error::InvalidDigit(5)));
+    answers(&rt, read_under(b"1,2\n3\r,4\n", &dialect), (within, [1, 9, 9]));
+    let last = Dialect {
+        layout: Layout::Separated {
+            separator: b',',
+            columns: 1,
+        },
+        ..dialect
+    };
+    let alone = fault_in(1, 0, CellFault::NotNumber(Error::InvalidDigit(4)));
+    answers(&rt, read_under(b"6\r\n5\r", &last), (alone, [6, 9, 9]));
+}
+
+#[test]
 fn cells_with_quotes_blanks_and_marks(rt: HostRuntime) {
     let mut numbers = [9_i16; 3];
     let mut bits = [0xfc];
@@ -110,6 +137,16 @@ fn cells_with_quotes_blanks_and_marks(rt: HostRuntime) {
     let answer = read_columns(text, &dialect, &options::STANDARD, 3, targets);
     answers(&rt, answer, table(2, 21));
     answers(&rt, (numbers, bits), ([1, 0, 9], [0xfd]));
+}
+
+#[test]
+fn doubled_quotes_are_folded(rt: HostRuntime) {
+    let mut to = *b".........";
+    answers(&rt, fold_quotes(b"5\"\" nails", &mut to), 8);
+    answers(&rt, to, *b"5\" nails.");
+    let mut short = *b"...";
+    answers(&rt, fold_quotes(b"a\"\"\"b", &mut short), 4);
+    answers(&rt, short, *b"...");
 }
 
 #[test]
@@ -154,6 +191,7 @@ fn read_ledger<'a>(
             columns: 3,
         },
         has_returns: true,
+        allows_returns: false,
         has_quotes: false,
         allows_blanks: false,
         skips_empty_rows: false,

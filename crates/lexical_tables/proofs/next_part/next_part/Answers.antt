@@ -30,8 +30,10 @@ returns-clause-cells c = λ start column.
     let is : get_or left r 0 ≡ line_feed = grind (arith, nat_tests) in
     let found = c.first_end-end.ensures in
     let sized = c.last_size-size.ensures in
+    let takes = c.takes_returns.ensures in
     cells_end d c.args.separator c.requires.marked start text left c.requires.here r c.last_size-size.result found.room
-    (found.line is) sized.within sized.cell sized.bare sized.returned (found.last is) column
+    (found.line is) sized.within (λ none. sized.cell (takes ∙ none)) (λ may. sized.bare (takes ∙ may))
+    (λ other. let less = sized.returned other in (less.0, less.1, sym takes ∙ less.2)) (found.last is) column
 
 pub returns-clause-row : goal.returns-clause-row
 returns-clause-row c = λ last start.
@@ -42,7 +44,10 @@ returns-clause-row c = λ last start.
     let is : get_or left r 0 ≡ line_feed = grind (arith, nat_tests) in
     let found = c.first_end-end.ensures in
     let sized = c.last_size-size.ensures in
+    let takes = c.takes_returns.ensures in
     ap (λ t. record { start = start; text = take (length text - length left + c.last_size-size.result) text; lacks_return = t })
-    (no_return_at d left r c.last_size-size.result is sized.returned)
+    (no_return_at d left r c.last_size-size.result is
+    (λ other. let less = sized.returned other in (less.0, less.1, sym takes ∙ less.2)))
     ∙ row_is d c.args.separator c.requires.marked start text left c.requires.here r c.last_size-size.result found.room
-    (found.line is) sized.within sized.cell sized.bare sized.returned
+    (found.line is) sized.within (λ none. sized.cell (takes ∙ none)) (λ may. sized.bare (takes ∙ may))
+    (λ other. let less = sized.returned other in (less.0, less.1, sym takes ∙ less.2))
