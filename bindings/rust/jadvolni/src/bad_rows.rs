@@ -124,7 +124,7 @@ pub struct Skipping<'b> {
 /// let [row] = read.bad else { panic!() };
 /// assert_eq!((row.row(), row.column(), row.error()), (1, 2, Error::TooFewCells(21)));
 /// assert_eq!(&text[row.start()..row.stop()], "366;x\n");
-/// assert_eq!(row.in_text(text, &ledger).to_string(), "line 2, column 3: too few cells");
+/// assert_eq!(row.in_text(text, &ledger).to_string(), "line 2: too few cells, none for column 3");
 /// assert_eq!(days[..2], [365, 367]);
 /// assert_eq!(cents[..2], [-80000, 7]);
 /// # Ok::<(), jadvolni::TableError>(())

@@ -43,6 +43,7 @@ pub struct TableFault {
     pub row_start: usize,
     /// The place behind the row and what ends it.
     pub row_stop: usize,
+    is_record: bool,
     cell: Option<Cell>,
     #[cfg(feature = "std")]
     name: Option<Box<str>>,
@@ -62,7 +63,9 @@ impl Cell {
             return None;
         }
         let content = content_of_row(row, dialect);
-        let found = cells_of(content, dialect).nth(error.column)?;
+        // Behind the cells of given widths stands what is too much.
+        let behind = place.min(content.len())..content.len();
+        let found = cells_of(content, dialect).nth(error.column).unwrap_or(behind);
         let place = place.checked_sub(found.start).filter(|place| *place <= found.len())?;
         Some(Cell { text: Excerpt::of(&content[found]), place })
     }
@@ -84,6 +87,7 @@ impl TableFault {
             line: lines + Position::of(row, at).line,
             row_start: start,
             row_stop: start + row.len(),
+            is_record: dialect.0.is_records != 0,
             cell: Cell::of(&error, row, at, dialect),
             ..TableFault::without_place(error)
         }
@@ -98,6 +102,7 @@ impl TableFault {
             line: 0,
             row_start: 0,
             row_stop: 0,
+            is_record: false,
             cell: None,
             #[cfg(feature = "std")]
             name: None,
@@ -126,13 +131,30 @@ impl TableFault {
         self.cell.as_ref().map(|cell| cell.text.as_bytes())
     }
 
-    /// The column in words, if there is one.
+    /// The row as an editor shows it, or its number where rows are no lines.
+    fn put_row(&self, f: &mut fmt::Formatter<'_>) -> fmt::Result {
+        match self.is_record {
+            true => write!(f, "row {}", self.row.saturating_add(1)),
+            false => write!(f, "line {}", self.line.saturating_add(1)),
+        }
+    }
+
+    /// The column by its name, or by its number.
     fn put_column(&self, f: &mut fmt::Formatter<'_>) -> fmt::Result {
         #[cfg(feature = "std")]
         if let Some(name) = &self.name {
             return crate::header::told(f, name);
         }
         write!(f, "column {}", self.column.saturating_add(1))
+    }
+
+    /// A fault of the table, or of the format of a column.
+    fn put_without_place(&self, f: &mut fmt::Formatter<'_>) -> fmt::Result {
+        if self.error != Error::InvalidTable {
+            self.put_column(f)?;
+            f.write_str(": ")?;
+        }
+        f.write_str(self.error.message())
     }
 }
 
@@ -167,26 +189,28 @@ impl TableFault {
 
 impl fmt::Display for TableFault {
     /// The fault as it is told to people, with lines and columns from 1:
-    /// `line 5, "amount": "12,5x": invalid digit at byte 4 of the cell`.
+    /// `line 5, "amount": "12,5x": invalid digit at byte 4 of the cell`. Of records it tells the number of the row.
     fn fmt(&self, f: &mut fmt::Formatter<'_>) -> fmt::Result {
-        let message = self.error.message();
-        match self.error {
-            Error::InvalidTable => return f.write_str(message),
-            Error::MissingReturn(_) => {
-                return write!(f, "line {}: {message}", self.line.saturating_add(1))
-            }
-            error if error.place().is_some() => {
-                write!(f, "line {}, ", self.line.saturating_add(1))?
-            }
-            _ => {}
+        if self.place().is_none() {
+            return self.put_without_place(f);
         }
-        self.put_column(f)?;
-        match (&self.cell, self.error) {
-            (None, _) => write!(f, ": {message}"),
-            (Some(cell), Error::TooManyCells(_)) => write!(f, ": {:?}: {message}", cell.text),
-            (Some(Cell { text, place }), _) => {
-                write!(f, ": {text:?}: {message} at byte {place} of the cell")
+        self.put_row(f)?;
+        let message = self.error.message();
+        let Some(cell) = &self.cell else {
+            write!(f, ": {message}")?;
+            if matches!(self.error, Error::TooFewCells(_)) {
+                f.write_str(", none for ")?;
+                self.put_column(f)?;
             }
+            return Ok(());
+        };
+        f.write_str(", ")?;
+        self.put_column(f)?;
+        f.write_str(": ")?;
+        cell.text.put_quoted(f)?;
+        match self.error {
+            Error::TooManyCells(_) => write!(f, ": {message}"),
+            _ => write!(f, ": {message} at byte {} of the cell", cell.place),
         }
     }
 }

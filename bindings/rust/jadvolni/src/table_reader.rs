@@ -179,7 +179,7 @@ impl<'a, R: Read> TableReader<'a, R> {
     ///     sum += cents[..count].iter().sum::<i64>();
     /// }
     /// assert_eq!((sum, rows.bad_rows()), (18, 1));
-    /// assert_eq!(faults[0].to_string(), r#"line 5, "cents": too few cells"#);
+    /// assert_eq!(faults[0].to_string(), r#"line 5: too few cells, none for "cents""#);
     /// # Ok::<(), Box<dyn std::error::Error>>(())
     /// ```
     pub fn read_skipping(

@@ -140,7 +140,7 @@ fn by_a_header() {
     assert_eq!(known(&read.bad[0]), (1, 0, Error::InvalidDigit(16), 16, 20));
     let told = [0, 1].map(|row| columns.header().fault(read.bad[row], text, &comma()).to_string());
     assert_eq!(told[0], r#"line 3, "id": "x": invalid digit at byte 0 of the cell"#);
-    assert_eq!(told[1], r#"line 5, "cents": too few cells"#);
+    assert_eq!(told[1], r#"line 5: too few cells, none for "cents""#);
     assert!(columns.read_skipping("", &comma(), &mut bad).unwrap().bad.is_empty());
     assert_eq!((cents[..2].to_vec(), ids[..2].to_vec()), (vec![5, 7], vec![1, 2]));
 }
@@ -273,7 +273,7 @@ fn the_program() {
     assert_eq!(run("b", b"a,b\n1,2\n,-5"), Ok("-3\n".into()));
     let text = b"\xEF\xBB\xBFa,\"b\"\n1,2\n\"x\ny\",7x\nc\n1,3\n";
     let told = "line 4, \"b\": \"7x\": invalid digit at byte 1 of the cell\n\
-        line 5, \"b\": too few cells\n2 bad rows\n5\n";
+        line 5: too few cells, none for \"b\"\n2 bad rows\n5\n";
     assert_eq!(run("b", text), Ok(told.into()));
     let many = run("a", &[&b"a\n"[..], &b"x\n".repeat(20)].concat()).unwrap();
     assert!(many.lines().count() == 12 && many.ends_with("\n20 bad rows\n0\n"), "{many}");

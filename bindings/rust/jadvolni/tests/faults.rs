@@ -28,7 +28,7 @@ fn each_kind_of_fault() {
     says("1,a,5x", comma(), r#"line 1, column 3: "5x": invalid digit at byte 1 of the cell"#);
     says("1,a,\n", comma(), r#"line 1, column 3: "": missing digit at byte 0 of the cell"#);
     says("1,a,2\n256,", comma(), r#"line 2, column 1: "256": overflow at byte 2 of the cell"#);
-    says("1,a\n", comma(), "line 1, column 3: too few cells");
+    says("1,a\n", comma(), "line 1: too few cells, none for column 3");
     says("1,a,2,b,c\n", comma(), r#"line 1, column 4: "b": too many cells"#);
     says("1,a,2\r\n1,a,3\n", returns, "line 2: missing carriage return");
     says(
@@ -64,11 +64,22 @@ fn hostile_cells() {
     let long = format!("1,a,{}x", "0".repeat(50));
     let told = fault(&long, &comma());
     let wanted =
-        format!("line 1, column 3: \"{}..\": invalid digit at byte 50 of the cell", "0".repeat(40));
+        format!("line 1, column 3: \"{}\"..: invalid digit at byte 50 of the cell", "0".repeat(40));
     assert_eq!((told.to_string(), told.text().unwrap().len()), (wanted, 40));
     let told = fault("1,a,7\n\u{e9},b,8\n", &comma());
-    let wanted = r#"line 2, column 1: "\xc3\xa9": invalid digit at byte 0 of the cell"#;
+    let wanted = r#"line 2, column 1: "é": invalid digit at byte 0 of the cell"#;
     assert_eq!(told.to_string(), wanted);
+    let told = fault(b"1,a,\xC3\xC3\xA9\xE2\x80\x8B\\'\t", &comma());
+    let wanted =
+        r#"line 1, column 3: "\xc3\u{e9}\u{200b}\\'\t": invalid digit at byte 0 of the cell"#;
+    assert_eq!(told.to_string(), wanted.replace(r"\u{e9}", "\u{e9}"));
+    // It is cut at 40 bytes, and shown without the part of a letter that this leaves.
+    let told = fault(format!("1,a,7{}\n", "\u{e9}".repeat(30)), &comma());
+    let wanted = format!(
+        "line 1, column 3: \"7{}\"..: invalid digit at byte 1 of the cell",
+        "\u{e9}".repeat(19)
+    );
+    assert_eq!((told.to_string(), told.text().unwrap().len()), (wanted, 40));
     // The row has what ends it, and not the empty rows behind it. Its cell has nothing of these.
     let told = fault("1,a,7x\n\n\n2,b,8\n", &comma().skips_empty_rows(true));
     assert_eq!((told.row_start, told.row_stop, told.text()), (0, 7, Some(&b"7x"[..])));
@@ -82,10 +93,10 @@ fn cells_of_given_widths() {
     let lines = Dialect::of_widths(&widths);
     let told = fault("12a345\n1xb678\n", &lines);
     assert_eq!(told.to_string(), r#"line 2, column 1: "1x": invalid digit at byte 1 of the cell"#);
-    assert_eq!(fault("12a3\n", &lines).to_string(), "line 1, column 3: too few cells");
-    assert_eq!(fault("12a345b\n", &lines).to_string(), "line 1, column 4: too many cells");
+    assert_eq!(fault("12a3\n", &lines).to_string(), "line 1: too few cells, none for column 3");
+    assert_eq!(fault("12a345b\n", &lines).to_string(), "line 1, column 4: \"b\": too many cells");
     let told = fault("12\n34512a3x5", &lines.is_records(true));
-    assert_eq!(told.to_string(), r#"line 2, column 3: "3x5": invalid digit at byte 1 of the cell"#);
+    assert_eq!(told.to_string(), r#"row 2, column 3: "3x5": invalid digit at byte 1 of the cell"#);
     assert_eq!((told.row, told.row_start, told.row_stop), (1, 6, 12));
     let told = fault("x", &Dialect::of_widths(&[1]));
     assert_eq!(told.error, Error::InvalidTable);
