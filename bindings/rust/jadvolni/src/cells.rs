@@ -4,13 +4,18 @@ use crate::Dialect;
 use core::iter::from_fn;
 use core::ops::Range;
 
+/// Whether a carriage return before the line feed of a row is no byte of it.
+fn takes_returns(dialect: &Dialect<'_>) -> bool {
+    dialect.0.has_returns != 0
+}
+
 /// A row without what ends it.
 pub(crate) fn content_of_row<'t>(row: &'t [u8], dialect: &Dialect<'_>) -> &'t [u8] {
     if dialect.0.is_records != 0 {
         return row;
     }
     let Some(line) = row.strip_suffix(b"\n") else { return row };
-    line.strip_suffix(b"\r").filter(|_| dialect.0.has_returns != 0).unwrap_or(line)
+    line.strip_suffix(b"\r").filter(|_| takes_returns(dialect)).unwrap_or(line)
 }
 
 /// Where the cells of a row stand, which is handed over without what ends it: those of the table's widths, or those
