@@ -173,6 +173,19 @@ static void troubles()
     CHECK(moved.row == 8 && moved.column == 8 && moved.place == 109 && moved.start == 110 && moved.stop == 111);
 }
 
+// Lines are counted over blocks of any size, of short lines and of long ones.
+static void far_lines()
+{
+    std::string text;
+    for (std::size_t row = 0; row < 3000; ++row) text += "1," + std::string(row % 300, 'a') + '\n';
+    text += "x,\n";
+    for (std::size_t size : {301u, 1000u, 4096u, 1u << 20}) {
+        const auto read = in_blocks({text, SIZE_MAX, nullptr}, size + 10, commas(), 5000, 4);
+        CHECK(read.rows.size() == 3000 && read.bad_rows == 1 && read.bad[0].row == 3000);
+        CHECK(read.faults[0] == "line 3001, column 1: \"x\": invalid digit at byte 0 of the cell");
+    }
+}
+
 static void random_tables()
 {
     const char *const pieces[] = {"1", "7", "300", "x", ",", ",", ",", "\n", "\n", "\"", "\"", "\"\"", "\r\n", " "};
@@ -201,6 +214,7 @@ int main()
     whole();
     hostile_texts();
     troubles();
+    far_lines();
     random_tables();
     return checked();
 }
