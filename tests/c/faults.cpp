@@ -158,9 +158,9 @@ static void names()
     CHECK(cents[0] == -80000 && cents[1] == 9 && bad[0].row == 1 && bad[0].start == fault.row_start());
     CHECK(!std::strcmp(columns.fault(bad[0], text).what(), fault.what()));
     CHECK(columns.read_skipping("", 4, bad).rows() == 0);
-    const auto wrong = columns.read_skipping(text, 5, bad);
-    CHECK(wrong.status() == status::invalid_table && std::strstr(wrong.message(), "fewer rows") && wrong.place() == 0);
-    CHECK(!std::strcmp(columns.fault(wrong, text).what(),
+    const auto narrow = columns.read_skipping(text, 5, bad);
+    CHECK(narrow.status() == status::invalid_table && std::strstr(narrow.message(), "fewer rows") && narrow.place() == 0);
+    CHECK(!std::strcmp(columns.fault(narrow, text).what(),
                        "\"cents\": the column's array has room for fewer rows than are asked for"));
     // Names that are long, or that would be read as words of the message.
     const std::string name(50, 'n'), few = "1,2\n";
