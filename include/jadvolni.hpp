@@ -14,6 +14,10 @@
 //     std::vector<int> values(1000);
 //     auto read = jadvolni::parse_column(text, '\n', values); // a number on each line
 //
+// Tables are read by parse_table, by parse_table_skipping, which skips bad rows, and by table_blocks; table_fault tells
+// of a fault its line, its row and its cell, in words too. Rows, columns, lines and places count from 0, and in words
+// lines and columns from 1, as an editor counts.
+//
 // T may be any integer type of C++ but bool and the types of wide characters, and, with gcc and
 // clang, a type of 128 bits. No call throws or allocates, and the header compiles without exceptions
 // too. What the calls of jadvolni.h answer is proved; what this header adds to them is tested.
@@ -487,6 +491,8 @@ std::from_chars_result from_chars(const char *first, const char *last, T &value,
 // The rest of it, in an order in which each has what it stands on.
 #define JADVOLNI_HPP_
 #include "jadvolni_tables.hpp"
+
+#include "jadvolni_faults.hpp"
 
 #include "jadvolni_blocks.hpp"
 #include "jadvolni_within.hpp"

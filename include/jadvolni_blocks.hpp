@@ -11,55 +11,24 @@ namespace jadvolni {
 
 namespace detail {
 
-// Whether a row ends in bytes that come little by little: each is looked at once.
-class row_ends {
-public:
-    explicit row_ends(const table &how) noexcept : has_quotes_(how.has_quotes != 0)
-    {
-        if (!how.is_records) return;
-        for (std::size_t column = 0; column < how.width_count; ++column) {
-            auto room = std::size_t(-1) - record_size_;
-            record_size_ += std::min(room, how.widths[column]);
-        }
-        record_size_ = std::max<std::size_t>(record_size_, 1);
+// How many line feeds a text has. Those of so many bytes are summed up in a byte, which compilers do for many at once.
+inline std::size_t line_feeds(std::string_view text) noexcept
+{
+    constexpr std::size_t part_size = 128;
+    std::size_t count = 0;
+    for (; text.size() >= part_size; text.remove_prefix(part_size)) {
+        unsigned char in_part = 0;
+        for (std::size_t place = 0; place < part_size; ++place)
+            in_part = static_cast<unsigned char>(in_part + (text[place] == '\n'));
+        count += in_part;
     }
+    return count + static_cast<std::size_t>(std::count(text.begin(), text.end(), '\n'));
+}
 
-    // Another row begins.
-    void begin() noexcept { seen_ = quote_ = closed_ = 0, is_open_ = false; }
-
-    // Whether the row ends in its first bytes, of which those that it was asked before are the front.
-    bool ends_in(const char *row, std::size_t size) noexcept
-    {
-        if (record_size_) return size >= record_size_;
-        for (; seen_ < size; ++seen_) {
-            if (row[seen_] == '"' && has_quotes_) see_quote();
-            else if (row[seen_] == '\n' && !is_open_) return true;
-        }
-        return false;
-    }
-
-    // Where the row stops, that ends in what was seen.
-    std::size_t stop() const noexcept { return record_size_ ? record_size_ : seen_ + 1; }
-
-    // The place in the row of a quote that isn't closed in what was seen, if there is one.
-    std::optional<std::size_t> open_quote() const noexcept
-    {
-        return is_open_ ? std::optional<std::size_t>(quote_) : std::nullopt;
-    }
-
-private:
-    // A quote directly behind one that closes makes with it one that is doubled, and the cell goes on.
-    void see_quote() noexcept
-    {
-        if (is_open_) closed_ = seen_ + 1;
-        else if (closed_ != seen_ || seen_ == 0) quote_ = seen_;
-        is_open_ = !is_open_;
-    }
-
-    // The size of a record, or 0; how many bytes were seen, the last quote that opens, and the place behind the
-    // last one that closes.
-    std::size_t record_size_ = 0, seen_ = 0, quote_ = 0, closed_ = 0;
-    bool has_quotes_, is_open_ = false;
+// The bytes of a block, and what stands before them: so many rows, line feeds and bytes.
+struct block_text {
+    std::string_view bytes;
+    std::size_t rows, lines, before;
 };
 
 } // namespace detail
@@ -72,13 +41,24 @@ public:
     {
     }
 
-    // Whether nothing is wrong: then there are rows.
+    // One of which the bytes are there too, and in which so many rows were skipped.
+    table_block(const table_result &read, std::size_t first_row, std::size_t place, const char *trouble,
+                const detail::block_text &text, const table &how, std::size_t bad_rows) noexcept
+        : table_result(read), first_row_(first_row), place_(place), trouble_(trouble), text_(text), how_(how),
+          bad_rows_(bad_rows)
+    {
+    }
+
+    // Whether nothing is wrong: then there are rows, or bad ones that were skipped.
     explicit operator bool() const noexcept { return !trouble_ && table_result::operator bool(); }
 
     // How many rows are in the arrays, and how many came before them. So at a fault the sum is the
-    // number of its row, from 0.
+    // number of its row, from 0, if none was skipped.
     using table_result::rows;
     std::size_t first_row() const noexcept { return first_row_; }
+
+    // How many bad rows of the block were skipped, also those that had no room.
+    std::size_t bad_rows() const noexcept { return bad_rows_; }
 
     // What is wrong: a fault with its column and its name, or, at status::ok, that a row has no room
     // among the bytes or that reading has failed.
@@ -89,9 +69,30 @@ public:
     // that of its quote that isn't closed, or where it starts.
     std::size_t place() const noexcept { return place_; }
 
+    // What the text tells of what is wrong, while the block is the last one that was read. Rows, lines and places count
+    // in all that was read.
+    table_fault fault() const noexcept
+    {
+        const table_result &in_bytes = *this;
+        auto fault = trouble_ ? table_fault(trouble_, place_ - text_.before, 0, text_.bytes, how_)
+                              : table_fault(in_bytes, text_.bytes, how_);
+        return fault.behind(text_.rows, text_.lines, text_.before);
+    }
+
+    // The same of a bad row of the block.
+    table_fault fault(bad_row bad) const noexcept
+    {
+        bad.row -= text_.rows;
+        bad.place -= text_.before, bad.start -= text_.before, bad.stop -= text_.before;
+        return table_fault(bad, text_.bytes, how_).behind(text_.rows, text_.lines, text_.before);
+    }
+
 private:
     std::size_t first_row_, place_;
     const char *trouble_;
+    detail::block_text text_{};
+    table how_{};
+    std::size_t bad_rows_ = 0;
 };
 
 // The first row of a file, which is a header, with what ends it; or what hinders it.
@@ -125,13 +126,21 @@ private:
 //     jadvolni::table_blocks blocks(read, bytes, ledger, 1000, columns);
 //     for (const jadvolni::table_block &block : blocks)
 //         if (block) use(days, cents, block.rows());
-//         else std::cerr << block.message() << " at byte " << block.place() << '\n';
+//         else std::cerr << block.fault().what() << '\n';
 //
 // `read` puts bytes to where it is told, and answers how many: 0 at the end, a negative number where it
 // fails, also over std::fread or a std::istream, which say nothing else at a fault than at the end. It may
 // hand out one byte at a time: no byte is looked at more often for it.
 // Nothing follows a block that is wrong. Another loop goes on where the last one stopped, and reads
-// again where that failed.
+// again where that failed. Rows at fault end no loop where they are skipped:
+//
+//     std::array<jadvolni::bad_row, 10> bad;
+//     blocks.skip_bad_rows(bad);
+//     for (const jadvolni::table_block &block : blocks) {
+//         use(days, cents, block.rows());
+//         for (std::size_t k = 0; k < std::min(block.bad_rows(), bad.size()); ++k)
+//             std::cerr << block.fault(bad[k]).what() << '\n';
+//     }
 template <class Read>
 class table_blocks {
 public:
@@ -182,18 +191,31 @@ public:
         column_count_ = std::size(columns);
     }
 
+    // Skips rows at fault from here on. What is known of those of a block goes to `bad`, as far as there is room, with
+    // rows and places in all that was read. A block may have no right row then. Of the empty rows behind a bad one that
+    // are skipped, its stop is behind those that were there.
+    template <class Bad>
+    void skip_bad_rows(Bad &bad) noexcept
+    {
+        bad_ = std::data(bad);
+        bad_capacity_ = std::size(bad);
+        skips_ = true;
+    }
+
+    // How many bad rows were skipped so far.
+    std::size_t bad_rows() const noexcept { return bad_rows_; }
+
     // The first row of all, which is no row of the table: so jadvolni_columns.hpp finds columns by their names. Ask
     // for it before the first block, until which it is among the bytes; again where reading has failed.
     header_row header()
     {
         const char *trouble = pass_byte_order_mark();
-        bool takes_returns = how_.has_returns || how_.allows_returns;
         std::string_view row;
         do {
             pass(row.size());
             if (trouble || (trouble = fill_row())) return {{}, place_of(trouble), trouble};
             row = {bytes_ + first_, is_last_ && !ends() ? stop_ - first_ : ends_.stop()};
-        } while (how_.skips_empty_rows && (row == "\n" || (row == "\r\n" && takes_returns)));
+        } while (how_.skips_empty_rows && !row.empty() && detail::content_of_row(row, how_).empty());
         header_row header(row, before_ + first_, nullptr);
         pass(row.size());
         return header;
@@ -215,10 +237,9 @@ private:
                 if (auto trouble = fill()) return hindered(trouble);
                 continue;
             }
-            std::string_view text(bytes_ + first_, stop_ - first_);
-            auto read = detail::read_table(text, is_last_, how_, capacity_, columns_, column_count_);
+            auto read = read_rows();
             is_over_ = !read;
-            if (is_over_ || read.rows()) return tell(read);
+            if (is_over_ || read.rows() || read.bad_rows()) return tell(read);
             pass(read.place());
             tried_ = stop_ - first_;
             is_over_ = is_last_ && first_ == stop_;
@@ -227,6 +248,21 @@ private:
         }
         return false;
     }
+
+    // The bytes that are left.
+    std::string_view left() const noexcept { return {bytes_ + first_, stop_ - first_}; }
+
+    // The rows of these, without bad ones where they are skipped.
+    skipping_result read_rows() noexcept
+    {
+        if (!skips_)
+            return {detail::read_table(left(), is_last_, how_, capacity_, columns_, column_count_), 0};
+        return detail::read_table_skipping(left(), is_last_, how_, capacity_, columns_, column_count_, bad_,
+                                           bad_capacity_);
+    }
+
+    // The same with what stands before them.
+    detail::block_text text() const noexcept { return {left(), row_ + bad_rows_, lines_, before_ + first_}; }
 
     // Whether the bytes that are left may have a whole row: one ends there, or they are twice as many as had none.
     bool may_have_row() noexcept
@@ -238,7 +274,7 @@ private:
     bool hindered(const char *trouble) noexcept
     {
         is_over_ = true;
-        block_ = table_block(table_result({}), row_, place_of(trouble), trouble);
+        block_ = table_block(table_result({}), row_, place_of(trouble), trouble, text(), how_, 0);
         return true;
     }
 
@@ -252,12 +288,17 @@ private:
     bool ends() noexcept { return ends_.ends_in(bytes_ + first_, stop_ - first_); }
 
     // Tells what was read from the first byte on, and goes behind its rows.
-    bool tell(const table_result &read) noexcept
+    bool tell(const skipping_result &read) noexcept
     {
-        block_ = table_block(read, row_, before_ + first_ + read.place(), nullptr);
+        const auto here = text();
+        const auto known = std::min(read.bad_rows(), bad_capacity_);
+        for (std::size_t index = 0; index < known; ++index)
+            bad_[index] = behind(bad_[index], here.rows, here.before);
+        block_ = table_block(read, row_, here.before + read.place(), nullptr, here, how_, read.bad_rows());
         if (!is_over_) {
             pass(read.place());
             row_ += read.rows();
+            bad_rows_ += read.bad_rows();
         }
         return true;
     }
@@ -266,6 +307,7 @@ private:
     void pass(std::size_t size) noexcept
     {
         if (size == 0) return;
+        lines_ += detail::line_feeds({bytes_ + first_, size});
         first_ += size;
         tried_ = 0;
         ends_.begin();
@@ -319,9 +361,12 @@ private:
     table_column *columns_ = nullptr;
     std::size_t column_count_ = 0;
     detail::row_ends ends_;
-    // The bytes that are left, how many of them had no whole row, how many came before all of them, and how many rows.
-    std::size_t first_ = 0, stop_ = 0, tried_ = 0, before_ = 0, row_ = 0;
-    bool is_last_ = false, is_over_ = false;
+    bad_row *bad_ = nullptr;
+    std::size_t bad_capacity_ = 0;
+    // The bytes that are left, how many of them had no whole row, and how many came before all of them; how many rows,
+    // bad rows and line feeds did.
+    std::size_t first_ = 0, stop_ = 0, tried_ = 0, before_ = 0, row_ = 0, bad_rows_ = 0, lines_ = 0;
+    bool is_last_ = false, is_over_ = false, skips_ = false;
     table_block block_{table_result({}), 0, 0, nullptr};
 };
 

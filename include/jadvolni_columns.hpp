@@ -6,7 +6,7 @@
 //         text, ledger, {{"id", jadvolni::column_into(ids)}, {"cents", jadvolni::column_into(cents)}});
 //     if (!columns) return fail(columns.message()); // no column "cents": the header has "id", "cent"
 //     auto read = columns.read(text, 1000);
-//     if (!read) std::cerr << columns.name(read.column()) << ": " << read.message() << '\n';
+//     if (!read) std::cerr << columns.fault(read, text).what() << '\n'; // line 3, "cents": "7x": invalid digit at ..
 //
 // Unlike jadvolni.hpp it allocates memory for names, and throws where there is none.
 #pragma once
@@ -70,6 +70,35 @@ public:
         return rows.moved(place_);
     }
 
+    // The same, but rows at fault are skipped: what is known of each goes to `bad`, as far as there is room.
+    template <class Bad>
+    [[nodiscard]] skipping_result read_skipping(std::string_view text, std::size_t capacity, Bad &&bad) noexcept
+    {
+        const auto start = std::min(place_, text.size());
+        auto rows = detail::read_table_skipping(text.substr(start), true, how_, capacity, data(), size(),
+                                                std::data(bad), std::size(bad));
+        const auto known = std::min<std::size_t>(rows.bad_rows(), std::size(bad));
+        for (std::size_t index = 0; index < known; ++index)
+            std::data(bad)[index] = behind(std::data(bad)[index], 0, place_);
+        return rows.moved(place_);
+    }
+
+    // What a text tells of a fault of its rows, as `read` has answered it, or of a bad row, with the name of its
+    // column, which lives as long as these columns.
+    table_fault fault(const table_result &read, std::string_view text) const noexcept
+    {
+        auto rows = text.substr(std::min(place_, text.size()));
+        auto start = place_ + jadvolni_row_place(rows.data(), rows.size(), &how_, read.rows()).start;
+        return named(table_fault(read, start, text, how_));
+    }
+    table_fault fault(const bad_row &bad, std::string_view text) const noexcept
+    {
+        return named(table_fault(bad, text, how_));
+    }
+
+    // A fault, as of a block, with the name of its column.
+    table_fault named(const table_fault &fault) const noexcept { return fault.named(name(fault.column())); }
+
 private:
     columns_by_header(std::string_view text, const table &how, const named_column *wanted, std::size_t count)
         : how_(how)
@@ -104,30 +133,17 @@ private:
     std::string_view first_row(std::string_view text)
     {
         if (text.substr(0, 3) == "\xEF\xBB\xBF") place_ = 3;
-        detail::row_ends ends(how_);
         for (;;) {
-            auto rest = text.substr(place_);
-            auto row = ends.ends_in(rest.data(), rest.size()) ? rest.substr(0, ends.stop()) : rest;
-            if (row.empty() || !how_.skips_empty_rows || !content(row).empty()) return row;
+            auto row = detail::first_row(text.substr(place_), how_);
+            if (row.empty() || !how_.skips_empty_rows || !detail::content_of_row(row, how_).empty()) return row;
             place_ += row.size();
-            ends.begin();
         }
-    }
-
-    // A row without what ends it.
-    std::string_view content(std::string_view row) const noexcept
-    {
-        if (how_.is_records || row.empty() || row.back() != '\n') return row;
-        row.remove_suffix(1);
-        bool takes_returns = how_.has_returns || how_.allows_returns;
-        if (takes_returns && !row.empty() && row.back() == '\r') row.remove_suffix(1);
-        return row;
     }
 
     // The names of a row, if it is one of the table, which the library judges by its own rules.
     bool read_names(std::string_view row)
     {
-        auto cells = cells_of(content(row));
+        auto cells = cells_of(detail::content_of_row(row, how_));
         std::vector<table_column> unread(cells.size());
         auto judged = detail::read_table(row, true, how_, 1, unread.data(), unread.size());
         place_ += judged.place();
@@ -136,26 +152,11 @@ private:
         return true;
     }
 
-    // The cells of a row: those of the table's widths, or those between separators outside quotes.
     std::vector<std::string_view> cells_of(std::string_view row) const
     {
         std::vector<std::string_view> cells;
-        for (std::size_t column = 0; column < how_.width_count; ++column) {
-            cells.push_back(row.substr(0, how_.widths[column]));
-            row.remove_prefix(cells.back().size());
-        }
-        if (how_.width_count) return cells;
-        const auto separator = static_cast<char>(how_.separator);
-        const bool has_quotes = how_.has_quotes && separator != '"';
-        std::size_t start = 0;
-        bool is_within = false;
-        for (std::size_t place = 0; place < row.size(); ++place) {
-            is_within ^= has_quotes && row[place] == '"';
-            if (row[place] != separator || is_within) continue;
-            cells.push_back(row.substr(start, place - start));
-            start = place + 1;
-        }
-        cells.push_back(row.substr(start));
+        detail::row_cells rest(row, how_);
+        while (auto cell = rest.next()) cells.push_back(*cell);
         return cells;
     }
 

@@ -47,6 +47,18 @@ template <class Bits>
     return (std::data(bits)[row / 8] >> (row % 8) & 1) != 0;
 }
 
+namespace detail {
+
+// Whether a fault is one of the text, which has a place.
+inline bool has_place(status of) noexcept
+{
+    auto code = static_cast<std::uint32_t>(of);
+    return (code >= JADVOLNI_OVERFLOW && code <= JADVOLNI_INVALID_LEADING_ZEROS)
+        || (code >= JADVOLNI_TOO_FEW_CELLS && code <= JADVOLNI_MISSING_RETURN) || code == JADVOLNI_MISPLACED_QUOTE;
+}
+
+} // namespace detail
+
 // What was read of a table: a count of rows, and where reading stopped or what is wrong there.
 class table_result : public outcome {
 public:
@@ -61,7 +73,7 @@ public:
     // The same where the text stands so many bytes further on.
     table_result moved(std::size_t bytes) const noexcept
     {
-        auto place = is_of_format() ? this->place() : this->place() + bytes;
+        auto place = *this || detail::has_place(status()) ? this->place() + bytes : this->place();
         return table_result({static_cast<std::uint32_t>(status()), column_, rows_, place}, message_);
     }
 
@@ -72,14 +84,6 @@ public:
     std::size_t column() const noexcept { return column_; }
 
 private:
-    // Whether it is a fault that has no place.
-    bool is_of_format() const noexcept
-    {
-        auto code = static_cast<std::uint32_t>(status());
-        return (code >= JADVOLNI_INVALID_MANTISSA_RADIX && code <= JADVOLNI_INVALID_LITERAL_PREFIXES)
-            || code == JADVOLNI_INVALID_TABLE || code >= JADVOLNI_UNKNOWN_FIELD;
-    }
-
     std::size_t rows_, column_;
     const char *message_;
 };
@@ -136,14 +140,14 @@ inline std::size_t overlapping(const table_column *columns, std::size_t count, s
     return count;
 }
 
+inline constexpr const char *overlaps = "the column's array overlaps with that of another column, or with bits";
+
 // The rows of a part of a text. Columns that write to one place are refused, which the library can't see.
 inline table_result read_table(std::string_view text, bool is_last, const table &how, std::size_t capacity,
                                table_column *columns, std::size_t count) noexcept
 {
     auto wrong = overlapping(columns, count, capacity);
-    if (wrong != count)
-        return table_result({JADVOLNI_INVALID_TABLE, wrong, 0, 0},
-                            "the column's array overlaps with that of another column, or with bits");
+    if (wrong != count) return table_result({JADVOLNI_INVALID_TABLE, wrong, 0, 0}, overlaps);
     auto answer = jadvolni_parse_table(text.data(), text.size(), is_last, &how, capacity, columns, count);
     if (answer.status == JADVOLNI_OK) return table_result(answer);
     return table_result(answer, jadvolni_table_text(answer, &how, capacity, columns, count));
@@ -175,26 +179,46 @@ using bad_row = jadvolni_bad_row;
 
 // What was read of a table whose bad rows were skipped: how many rows are right and how many bad, and where
 // reading stopped; or what is wrong with the table or a column.
-class skipping_result : public outcome {
+class skipping_result : public table_result {
 public:
-    explicit skipping_result(jadvolni_skipping_result answer) noexcept
-        : outcome(answer.status, answer.place), rows_(answer.rows), bad_rows_(answer.bad_rows),
-          column_(answer.column)
+    explicit skipping_result(jadvolni_skipping_result answer, const char *message = nullptr) noexcept
+        : table_result({answer.status, answer.column, answer.rows, answer.place}, message), bad_rows_(answer.bad_rows)
     {
     }
 
-    // How many right rows were read.
-    std::size_t rows() const noexcept { return rows_; }
+    // The rows of a table of which so many others were skipped.
+    skipping_result(const table_result &rows, std::size_t bad_rows) noexcept
+        : table_result(rows), bad_rows_(bad_rows)
+    {
+    }
 
     // How many bad rows were skipped, also those that had no room.
     std::size_t bad_rows() const noexcept { return bad_rows_; }
 
-    // The column that is wrong, from 0.
-    std::size_t column() const noexcept { return column_; }
+    // The same where the text stands so many bytes further on.
+    skipping_result moved(std::size_t bytes) const noexcept { return {table_result::moved(bytes), bad_rows_}; }
 
 private:
-    std::size_t rows_, bad_rows_, column_;
+    std::size_t bad_rows_;
 };
+
+namespace detail {
+
+// As read_table, but rows at fault are skipped.
+inline skipping_result read_table_skipping(std::string_view text, bool is_last, const table &how,
+                                           std::size_t capacity, table_column *columns, std::size_t count,
+                                           bad_row *bad, std::size_t bad_capacity) noexcept
+{
+    auto wrong = overlapping(columns, count, capacity);
+    if (wrong != count) return skipping_result({JADVOLNI_INVALID_TABLE, wrong, 0, 0, 0}, overlaps);
+    auto answer = jadvolni_parse_table_skipping(text.data(), text.size(), is_last, &how, capacity, columns, count, bad,
+                                                bad_capacity);
+    if (answer.status == JADVOLNI_OK) return skipping_result(answer);
+    jadvolni_table_result refused{answer.status, answer.column, 0, 0};
+    return skipping_result(answer, jadvolni_table_text(refused, &how, capacity, columns, count));
+}
+
+} // namespace detail
 
 // As parse_table_part, but rows at fault are skipped: what is known of each goes to `bad`, as far as there is
 // room, and the right ones are stored one behind another.
@@ -203,9 +227,8 @@ template <class Columns, class Bad>
                                                         const table &how, std::size_t capacity,
                                                         Columns &&columns, Bad &&bad) noexcept
 {
-    return skipping_result(jadvolni_parse_table_skipping(
-        text.data(), text.size(), is_last, &how, capacity, std::data(columns), std::size(columns),
-        std::data(bad), std::size(bad)));
+    return detail::read_table_skipping(text, is_last, how, capacity, std::data(columns), std::size(columns),
+                                       std::data(bad), std::size(bad));
 }
 
 // The right rows of a text, `capacity` at most.
@@ -215,6 +238,14 @@ template <class Columns, class Bad>
                                                    Bad &&bad) noexcept
 {
     return parse_table_part_skipping(text, true, how, capacity, columns, bad);
+}
+
+// This row at fault of a part of a text as one of the text, in which so many rows and bytes stand before the part.
+[[nodiscard]] inline bad_row behind(bad_row bad, std::size_t rows, std::size_t bytes) noexcept
+{
+    bad.row += rows;
+    bad.place += bytes, bad.start += bytes, bad.stop += bytes;
+    return bad;
 }
 
 // The bytes of the row of a number, from 0, with what ends it and the empty rows behind it that are skipped: none

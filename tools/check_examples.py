@@ -138,10 +138,10 @@ def by_name() -> Iterator[Case]:
         b"day,cent\n": 'no column "cents": the header has "day", "cent"',
         b"cents,cents\n": 'more than one column "cents": the header has "cents", "cents"',
         b'cents,"a"b\n': "the header is no row: misplaced quote",
-        export + b"1,a,12x\n": 'row 1, column "cents", byte 32: invalid digit',
-        export + b"1,a\n": 'row 1, column "cents", byte 29: too few cells',
-        b"cents\n1\n2\0\n": 'row 2, column "cents", byte 9: invalid digit',
-        b"cents\n1\n\"" + b"2\n" * 1000000: f'row 2, column "cents", byte 8: {no_room}',
+        export + b"1,a,12x\n": 'line 3, "cents": "12x": invalid digit at byte 2 of the cell',
+        export + b"1,a\n": 'line 3: too few cells, none for "cents"',
+        b"cents\n1\n2\0\n": r'line 3, "cents": "2\x00": invalid digit at byte 1 of the cell',
+        b"cents\n1\n\"" + b"2\n" * 1000000: f"line 3: {no_room}",
         b"\"" + b"2\n" * 1000000: f"byte 0: {no_room}",
         b"cents\n" + GREATEST + b"\n1\n": f"row 2: {SUM_LEAVES}",
     }.items():
@@ -149,6 +149,36 @@ def by_name() -> Iterator[Case]:
     yield Case(program, b"", "", 2, f"{program}: {IS_FOLDER}", words, FOLDER)
     yield Case(program, b"cents\n1\n", "", 2, f"{program}: {IS_FULL}", words, FULL)
     yield Case(program, b"", "", 2, "usage: named_column NAME < FILE")
+
+
+def with_bad_rows() -> Iterator[Case]:
+    """The program that skips bad rows and tells them."""
+    program, words = "bad_rows", ("b",)
+
+    def skips(given: bytes, said: str, *told: str) -> Case:
+        return Case(program, given, f"{said}\n", 0, "\n".join(f"{program}: {it}" for it in told),
+                    words)
+    yield skips(b"a,b\n1,2\n,-5", "-3")
+    yield skips(b"a,b\n", "0")
+    yield skips(b"\xef\xbb\xbfa,\"b\"\n1,2\n\"x\ny\",7x\nc\n1,3\n", "5",
+                'line 4, "b": "7x": invalid digit at byte 1 of the cell',
+                'line 5: too few cells, none for "b"', "2 bad rows")
+    yield skips(b"a,b\n1,2\0\n\n3,\"4", "0",
+                r'line 2, "b": "2\x00": invalid digit at byte 1 of the cell',
+                'line 3: too few cells, none for "b"',
+                r'line 4, "b": "\"4": misplaced quote at byte 0 of the cell', "3 bad rows")
+    yield skips(b"b\n" + b"1\nx\n" * 300000, "300000",
+                *(f'line {2 * k + 3}, "b": "x": invalid digit at byte 0 of the cell'
+                  for k in range(10)), "300000 bad rows")
+    yield from faults(program, {
+        b"": "the table has no header",
+        b"a\n": 'no column "b": the header has "a"',
+        b"b\n1\n\"" + b"2\n" * 1000000: "line 3: a row has no room: a quote isn't closed",
+        b"b\n" + GREATEST + b"\n1\n": SUM_LEAVES,
+    }, words)
+    yield Case(program, b"", "", 2, f"{program}: {IS_FOLDER}", words, FOLDER)
+    yield Case(program, b"b\n1\n", "", 2, f"{program}: {IS_FULL}", words, FULL)
+    yield Case(program, b"", "", 2, "usage: bad_rows NAME < FILE")
 
 
 def of_words() -> Iterator[Case]:
@@ -169,7 +199,7 @@ def of_words() -> Iterator[Case]:
         yield Case("colour", b"", "30 144 255\n", 1, told, ("1e90FF", word))
 
 
-CASES = [*of_columns(), *by_name(), *of_words()]
+CASES = [*of_columns(), *by_name(), *with_bad_rows(), *of_words()]
 
 
 def check(place: Place, case: Case, program: str) -> None:

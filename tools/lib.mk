@@ -9,7 +9,7 @@ LICENCES := $(wildcard LICENSE-APACHE LICENSE-MIT NOTICE)
 # The version stands in the header alone. A program runs with every later library of its major version.
 VERSION := $(shell sed -n 's/.*JADVOLNI_VERSION_STRING "\(.*\)"/\1/p' include/jadvolni.h)
 SOVERSION := $(firstword $(subst ., ,$(VERSION)))
-HEADERS := jadvolni.h jadvolni.hpp $(addprefix jadvolni_,blocks.hpp columns.hpp tables.hpp within.hpp)
+HEADERS := jadvolni.h jadvolni.hpp $(addprefix jadvolni_,blocks.hpp columns.hpp faults.hpp tables.hpp within.hpp)
 LIBRARIES := build/libjadvolni.a build/libjadvolni.so
 # The shared library, where there is a compiler that links it.
 SHARED := $(if $(shell command -v $(CC) 2>/dev/null),build/libjadvolni.so)

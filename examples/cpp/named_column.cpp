@@ -35,10 +35,7 @@ static std::int64_t sum_of(const char *name)
     blocks.read_into(columns);
     for (const jadvolni::table_block &block : blocks) {
         for (std::size_t row = 0; row < block.rows(); ++row) add(sum, numbers[row], block.first_row() + row);
-        if (block) continue;
-        auto wrong = std::string(columns.name(block.column()));
-        errx(1, "row %zu, column \"%s\", byte %zu: %s", block.first_row() + block.rows() + 1, wrong.c_str(),
-             block.place(), block.message());
+        if (!block) errx(1, "%s", columns.named(block.fault()).what());
     }
     return sum;
 }

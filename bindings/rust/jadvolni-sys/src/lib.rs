@@ -159,7 +159,7 @@ pub struct jadvolni_skipping_result {
 
 /// How fixed-point numbers are written.
 #[repr(C)]
-#[derive(Debug, Copy, Clone, PartialEq, Eq)]
+#[derive(Debug, Copy, Clone, PartialEq, Eq, Hash)]
 pub struct jadvolni_fixed {
     pub integer: jadvolni_format,
     pub point: u8,

@@ -51,12 +51,12 @@ pub enum ColumnError {
 }
 
 impl fmt::Display for ColumnError {
-    /// The fault, and the field that has it: `overflow at byte 5, in field 1`.
+    /// The fault, and the field that has it, counted from 1: `overflow at byte 5, in field 2`.
     fn fmt(&self, f: &mut fmt::Formatter<'_>) -> fmt::Result {
         match self {
             ColumnError::InvalidFormat(error) => error.fmt(f),
             ColumnError::InvalidField { field, error, .. } => {
-                write!(f, "{error}, in field {field}")
+                write!(f, "{error}, in field {}", field.saturating_add(1))
             }
         }
     }
@@ -91,7 +91,7 @@ impl core::error::Error for ColumnError {}
 /// assert_eq!(values, [12, 7, 0, 0]);
 /// let fault = ColumnError::InvalidField { field: 1, start: 3, error: Error::Overflow(5) };
 /// assert_eq!(parse_column("12,256,x", b',', &mut values), Err(fault));
-/// assert_eq!(fault.to_string(), "overflow at byte 5, in field 1");
+/// assert_eq!(fault.to_string(), "overflow at byte 5, in field 2");
 /// ```
 #[inline]
 pub fn parse_column<T: ColumnInteger>(

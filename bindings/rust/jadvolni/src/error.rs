@@ -1,7 +1,7 @@
 //! What can be wrong with a text, or with the format that it is read under.
 
 use core::fmt;
-use jadvolni_sys::jadvolni_result;
+use jadvolni_sys::{jadvolni_line_column, jadvolni_result};
 
 /// What is wrong with a text, with its place, or with the format that it is read under.
 ///
@@ -148,15 +148,15 @@ impl Error {
         }
     }
 
-    /// The line and the column of a fault of a text, as an editor counts them, and `None` for one of the format or of
-    /// the table. The text is that in which the place counts.
+    /// The line and the column of a fault of a text, and `None` for one of the format or of the table. The text is that
+    /// in which the place counts.
     ///
     /// ```
     /// use jadvolni::{parse_column, Position};
     /// let (text, mut values) = ("12\n7x\n", [0u8; 4]);
     /// let told = parse_column(text, b'\n', &mut values).unwrap_err();
     /// let position = told.position(text).unwrap();
-    /// assert_eq!(position, Position { line: 2, column: 2 });
+    /// assert_eq!(position, Position { line: 1, column: 1 });
     /// assert_eq!(format!("{position}: {}", told.error().message()), "line 2, column 2: invalid digit");
     /// ```
     pub fn position(&self, text: impl AsRef<[u8]>) -> Option<Position> {
@@ -202,12 +202,12 @@ impl fmt::Display for Error {
 
 impl core::error::Error for Error {}
 
-/// Where a byte of a text stands, as an editor counts: from 1. A column is a byte, as compilers count.
+/// Line and column of a byte of a text, both counted from 0. Its text has them as an editor counts, from 1.
 #[derive(Debug, Copy, Clone, PartialEq, Eq, Hash)]
 pub struct Position {
-    /// The line: one more than there are line feeds before the byte.
+    /// The line: so many line feeds stand before the byte.
     pub line: usize,
-    /// The column: one more than there are bytes behind the last of these.
+    /// The column: so many bytes stand behind the last of these. It counts bytes, as compilers do.
     pub column: usize,
 }
 
@@ -216,20 +216,20 @@ impl Position {
     ///
     /// ```
     /// use jadvolni::Position;
-    /// assert_eq!(Position::of("a,b\nc", 4), Position { line: 2, column: 1 });
+    /// assert_eq!(Position::of("a,b\nc", 4), Position { line: 1, column: 0 });
     /// ```
     pub fn of(text: impl AsRef<[u8]>, place: usize) -> Position {
         let text = text.as_ref();
-        let before = &text[..place.min(text.len())];
-        let start = crate::field_start(before, b'\n');
-        let line = 1 + before.iter().filter(|byte| **byte == b'\n').count();
-        Position { line, column: 1 + before.len() - start }
+        // SAFETY: the pointer is that of a slice with its length.
+        let found = unsafe { jadvolni_line_column(text.as_ptr().cast(), text.len(), place) };
+        Position { line: found.line, column: found.column }
     }
 }
 
 impl fmt::Display for Position {
-    /// As `line 2, column 1`.
+    /// As `line 2, column 1`, each counted from 1.
     fn fmt(&self, f: &mut fmt::Formatter<'_>) -> fmt::Result {
-        write!(f, "line {}, column {}", self.line, self.column)
+        let Position { line, column } = self;
+        write!(f, "line {}, column {}", line.saturating_add(1), column.saturating_add(1))
     }
 }

@@ -2,8 +2,12 @@
 
 extern crate std;
 
+use crate::cells::{cells_of, content_of_row};
 use crate::row_ends::RowEnds;
-use crate::{parse_table, Dialect, Table, TableColumn, TableError};
+use crate::{
+    parse_table, parse_table_skipping, row_place, BadRow, Dialect, Skipping, Table, TableColumn,
+    TableError, TableFault,
+};
 use core::fmt;
 use core::ops::{Deref, DerefMut};
 use std::borrow::{Cow, ToOwned};
@@ -67,7 +71,7 @@ fn listed(f: &mut fmt::Formatter<'_>, names: &[String]) -> fmt::Result {
 }
 
 /// A name in quotes, cut where it is long.
-fn told(f: &mut fmt::Formatter<'_>, name: &str) -> fmt::Result {
+pub(crate) fn told(f: &mut fmt::Formatter<'_>, name: &str) -> fmt::Result {
     match name.char_indices().nth(NAME_TOLD) {
         Some((end, _)) => write!(f, "{:?} ..", &name[..end]),
         None => write!(f, "{name:?}"),
@@ -147,11 +151,12 @@ impl Header {
         if row.is_empty() {
             return Err(HeaderError::NoHeader);
         }
-        let cells = cells_of(content_of_row(row, dialect), dialect);
-        let mut unread: Vec<_> = cells.iter().map(|_| TableColumn::UNREAD).collect();
+        let content = content_of_row(row, dialect);
+        let names: Vec<_> =
+            cells_of(content, dialect).map(|cell| name_of(&content[cell], dialect)).collect();
+        let mut unread: Vec<_> = names.iter().map(|_| TableColumn::UNREAD).collect();
         // The library judges the row by its own rules.
         parse_table(row, dialect, &mut unread).map_err(HeaderError::Invalid)?;
-        let names = cells.iter().map(|cell| name_of(cell, dialect)).collect();
         Ok(Header { names, stop: row.len() })
     }
 
@@ -179,6 +184,22 @@ impl Header {
             (None, _) => Err(HeaderError::Missing { name: name.to_owned(), header: header() }),
             _ => Err(HeaderError::Doubled { name: name.to_owned(), header: header() }),
         }
+    }
+
+    /// What a text tells of a fault in its rows behind this header, as of [`TableError::in_text`], and the column's
+    /// name.
+    ///
+    /// Rows count from behind the header, and places from the text's start, as of [`Columns::read`].
+    pub fn fault(
+        &self,
+        error: impl Into<TableError>,
+        text: impl AsRef<[u8]>,
+        dialect: &Dialect<'_>,
+    ) -> TableFault {
+        let (error, text) = (error.into(), text.as_ref());
+        let rows = text.get(self.stop..).unwrap_or(&[]);
+        let start = self.stop + row_place(rows, dialect, error.row).unwrap_or_default().start;
+        TableFault::in_text(error, start, text, dialect).named(self.name(error.column))
     }
 
     /// The columns of the table, of which those are read that have the names.
@@ -230,8 +251,9 @@ impl<'a> Columns<'a> {
     /// let mut columns = Columns::by_header(text, &comma, wanted)?;
     /// let error = columns.read(text, &comma).unwrap_err();
     /// assert_eq!(error, TableError { row: 1, column: 2, error: Error::InvalidDigit(37) });
-    /// let (line, name) = (error.position(text).unwrap().line, columns.header().name(error.column));
-    /// assert_eq!((line, name.as_deref(), error.error.message()), (3, Some("cents"), "invalid digit"));
+    /// let fault = columns.header().fault(error, text, &comma);
+    /// assert_eq!(fault.to_string(), r#"line 3, "cents": "7x": invalid digit at byte 1 of the cell"#);
+    /// assert_eq!((fault.line, fault.name(), fault.text()), (2, Some("cents"), Some(&b"7x"[..])));
     /// assert_eq!((days[0], cents[0]), (1, -80000));
     /// # Ok::<(), jadvolni::HeaderError>(())
     /// ```
@@ -262,6 +284,23 @@ impl<'a> Columns<'a> {
             Err(error) => Err(error.behind(0, start)),
         }
     }
+
+    /// Reads the rows behind the header of a text, but skips and counts those at fault, as [`parse_table_skipping`]
+    /// does. Places count from the text's start.
+    pub fn read_skipping<'b>(
+        &mut self,
+        text: impl AsRef<[u8]>,
+        dialect: &Dialect<'_>,
+        bad: &'b mut [BadRow],
+    ) -> Result<Skipping<'b>, TableError> {
+        let (start, rows) = (self.header.stop, text.as_ref().get(self.header.stop..));
+        let told = parse_table_skipping(rows.unwrap_or(&[]), dialect, &mut self.columns, bad)?;
+        let Skipping { rows, bad_rows, stop, .. } = told;
+        let room = bad_rows.min(bad.len());
+        let bad = &mut bad[..room];
+        bad.iter_mut().for_each(|row| *row = row.behind(0, start));
+        Ok(Skipping { rows, bad_rows, bad, stop: start + stop })
+    }
 }
 
 impl<'a> Deref for Columns<'a> {
@@ -283,37 +322,6 @@ impl<'a> DerefMut for Columns<'a> {
 /// Whether a row, with what ends it, is an empty one that the table skips.
 pub(crate) fn is_skipped(row: &[u8], dialect: &Dialect<'_>) -> bool {
     dialect.0.skips_empty_rows != 0 && content_of_row(row, dialect).is_empty()
-}
-
-/// A row without what ends it.
-fn content_of_row<'t>(row: &'t [u8], dialect: &Dialect<'_>) -> &'t [u8] {
-    if dialect.0.is_records != 0 {
-        return row;
-    }
-    let Some(line) = row.strip_suffix(b"\n") else { return row };
-    line.strip_suffix(b"\r").filter(|_| dialect.0.has_returns != 0).unwrap_or(line)
-}
-
-/// The cells of a row: those of the table's widths, or those between separators outside quotes.
-fn cells_of<'t>(row: &'t [u8], dialect: &Dialect<'_>) -> Vec<&'t [u8]> {
-    let widths = dialect.widths();
-    if !widths.is_empty() {
-        let mut rest = row;
-        let by_width = |width: &usize| {
-            let (cell, more) = rest.split_at(rest.len().min(*width));
-            rest = more;
-            cell
-        };
-        return widths.iter().map(by_width).collect();
-    }
-    let separator = dialect.0.separator;
-    let has_quotes = dialect.0.has_quotes != 0 && separator != b'"';
-    let mut is_within = false;
-    let parts = |byte: &u8| {
-        is_within ^= has_quotes && *byte == b'"';
-        *byte == separator && !is_within
-    };
-    row.split(parts).collect()
 }
 
 /// What a cell holds, without its quotes and blanks.

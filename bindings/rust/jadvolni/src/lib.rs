@@ -9,9 +9,12 @@
 //! assert_eq!(parse_with_format::<u8>("0x1F", &hexadecimal), Ok(31));
 //! ```
 //!
-//! No call panics, and none allocates, but what the feature `std` has: `ColumnReader` and `TableReader` hold a block, and
-//! `Header` and `Columns` names. The proofs are of the library below these calls: that this crate hands its texts over and
-//! its answers back is tested.
+//! Fields, rows, columns, lines and places count from 0. What is told to people counts fields, rows, columns and lines
+//! from 1, as an editor does, and bytes from 0.
+//!
+//! No call panics, and none allocates, but what the feature `std` has: `ColumnReader` and `TableReader` hold a block,
+//! and `Header` and `Columns` names. The proofs are of the library below these calls: that this crate hands its texts
+//! over and its answers back is tested.
 #![no_std]
 
 // The example of the README is a test too.
@@ -19,10 +22,14 @@
 #[doc = include_str!("../../README.md")]
 struct Readme;
 
+mod bad_rows;
 #[cfg(feature = "std")]
 mod block;
+mod cells;
 mod column;
 mod error;
+mod excerpt;
+mod fixed;
 mod format;
 #[cfg(feature = "std")]
 mod header;
@@ -31,20 +38,26 @@ mod languages;
 mod literal;
 #[cfg(feature = "std")]
 mod reader;
-#[cfg(feature = "std")]
 mod row_ends;
 #[cfg(feature = "serde")]
 mod serde_integer;
 mod table;
+mod table_column;
+mod table_fault;
+#[cfg(feature = "std")]
+mod table_read_error;
 #[cfg(feature = "std")]
 mod table_reader;
 mod within;
 
+pub use bad_rows::{parse_table_part_skipping, parse_table_skipping, row_place, BadRow, Skipping};
 pub use column::{
     field_start, parse_column, parse_column_part, parse_column_part_with_format,
     parse_column_with_format, Column, ColumnError, ColumnInteger,
 };
 pub use error::{Error, Position};
+pub use excerpt::Excerpt;
+pub use fixed::{parse_fixed, parse_fixed_front, Fixed};
 pub use format::Format;
 #[cfg(feature = "std")]
 pub use header::{Columns, Header, HeaderError};
@@ -52,13 +65,14 @@ pub use integer::Integer;
 pub use literal::{parse_literal, Literal};
 #[cfg(feature = "std")]
 pub use reader::{ColumnReader, ReadError};
-pub use table::{
-    is_present, parse_table, parse_table_part, Dialect, Table, TableColumn, TableError,
-    TableInteger,
-};
+pub use table::{parse_table, parse_table_part, Dialect, Table, TableError};
+pub use table_column::{is_present, TableColumn, TableInteger};
+pub use table_fault::TableFault;
 #[cfg(feature = "std")]
-pub use table_reader::{TableReadError, TableReader};
-pub use within::{parse_within, parse_within_with_format, Excerpt, WithinError};
+pub use table_read_error::TableReadError;
+#[cfg(feature = "std")]
+pub use table_reader::TableReader;
+pub use within::{parse_within, parse_within_with_format, WithinError};
 
 use jadvolni_sys as sys;
 

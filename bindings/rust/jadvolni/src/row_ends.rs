@@ -1,4 +1,4 @@
-//! Where the first row of a text ends that comes little by little, with the feature `std`.
+//! Where the first row of a text ends, which may come little by little.
 
 use crate::Dialect;
 
@@ -28,6 +28,7 @@ impl RowEnds {
     }
 
     /// Another row begins.
+    #[cfg(feature = "std")]
     pub(crate) fn begin(&mut self) {
         (self.seen, self.open, self.last) = (0, None, None);
     }
@@ -51,7 +52,14 @@ impl RowEnds {
         None
     }
 
+    /// The first row of a text, with what ends it: all of the text where nothing does.
+    pub(crate) fn first_row<'t>(text: &'t [u8], dialect: &Dialect<'_>) -> &'t [u8] {
+        let stop = RowEnds::new(dialect).stop_in(text);
+        &text[..stop.unwrap_or(text.len())]
+    }
+
     /// The place in the row of the quote that opens its cell, and isn't closed in what was handed over.
+    #[cfg(feature = "std")]
     pub(crate) fn open_quote(&self) -> Option<usize> {
         self.open
     }

@@ -1,6 +1,7 @@
 //! Tables: the rows of a text, each column read into a slice of its own by one call.
 
-use crate::{ColumnInteger, Error, Format, Position};
+use crate::table_column::capacity;
+use crate::{row_place, Error, Position, TableColumn, TableFault};
 use core::fmt;
 use core::marker::PhantomData;
 use core::ptr::null;
@@ -66,6 +67,13 @@ impl<'a> Dialect<'a> {
         self
     }
 
+    /// Whether a carriage return may stand before each line feed: then it is no byte of its row. Where
+    /// [`Dialect::has_returns`] asks for one, this changes nothing.
+    pub const fn allows_returns(mut self, flag: bool) -> Self {
+        self.0.allows_returns = flag as u8;
+        self
+    }
+
     /// Whether a cell may stand within quotes, `"`, and then hold separators and line feeds.
     pub const fn has_quotes(mut self, flag: bool) -> Self {
         self.0.has_quotes = flag as u8;
@@ -92,7 +100,6 @@ impl<'a> Dialect<'a> {
     }
 }
 
-#[cfg(feature = "std")]
 impl<'a> Dialect<'a> {
     /// The widths of cells; none where these stand between separators.
     pub(crate) fn widths(&self) -> &'a [usize] {
@@ -103,93 +110,6 @@ impl<'a> Dialect<'a> {
         unsafe { core::slice::from_raw_parts(self.0.widths, self.0.width_count) }
     }
 }
-
-/// A column of a table: it is read into a slice, or its cells aren't looked at.
-#[derive(Debug)]
-#[repr(transparent)]
-pub struct TableColumn<'a>(sys::jadvolni_table_column, PhantomData<&'a mut ()>);
-
-impl<'a> TableColumn<'a> {
-    /// A column that isn't read: its cells may hold any bytes but the separator and a line feed.
-    pub const UNREAD: Self = TableColumn(UNREAD, PhantomData);
-
-    /// A column whose numbers go to a slice, under the standard format.
-    pub fn of<T: TableInteger>(numbers: &'a mut [T]) -> Self {
-        Self::with_format(numbers, &Format::STANDARD)
-    }
-
-    /// A column whose numbers go to a slice, under a format.
-    pub fn with_format<T: TableInteger>(numbers: &'a mut [T], format: &Format) -> Self {
-        let mut column = sys::jadvolni_table_column { format: format.0, ..UNREAD };
-        T::put_into(&mut column, numbers);
-        TableColumn(column, PhantomData)
-    }
-
-    /// The same column, where numbers may be missing: the bit `k & 7` of byte `k >> 3` is then 1 if row `k` has a
-    /// number, and 0 if it is missing, and 0 in the slice. The lowest bit comes first, and [`is_present`] asks for one.
-    pub fn with_bits(mut self, present: &'a mut [u8]) -> Self {
-        let capacity = present.len();
-        self.0.present = sys::jadvolni_array { numbers: present.as_mut_ptr(), capacity };
-        self
-    }
-
-    /// How many numbers there is room for, if the column is read.
-    fn room(&self) -> Option<usize> {
-        fn of<T>(array: sys::jadvolni_array<T>) -> Option<usize> {
-            (!array.numbers.is_null()).then_some(array.capacity)
-        }
-        let it = &self.0;
-        let wide = of(it.i64).or(of(it.u64)).or(of(it.i32)).or(of(it.u32));
-        let room = wide.or(of(it.i16)).or(of(it.u16)).or(of(it.i8)).or(of(it.u8))?;
-        Some(of(it.present).map_or(room, |bytes| room.min(bytes.saturating_mul(8))))
-    }
-}
-
-/// Whether a row has a number, by the bits of its column. A row that they have no bit for has none.
-///
-/// ```
-/// use jadvolni::{is_present, parse_table, Dialect, TableColumn};
-/// let (mut numbers, mut bits) = ([0i32; 3], [0u8]);
-/// let mut columns = [TableColumn::of(&mut numbers).with_bits(&mut bits)];
-/// parse_table("7\n\n0\n", &Dialect::separated_by(b','), &mut columns).unwrap();
-/// assert_eq!([0, 1, 2, 8].map(|row| is_present(&bits, row)), [true, false, true, false]);
-/// ```
-pub fn is_present(bits: &[u8], row: usize) -> bool {
-    bits.get(row >> 3).is_some_and(|byte| byte >> (row & 7) & 1 == 1)
-}
-
-/// How many rows there is room for: there is no bound where no column is read.
-pub(crate) fn capacity(columns: &[TableColumn<'_>]) -> usize {
-    columns.iter().filter_map(TableColumn::room).min().unwrap_or(usize::MAX)
-}
-
-/// As C's `{0}`.
-// SAFETY: the fields are integers and pointers, and each of these may be 0.
-const UNREAD: sys::jadvolni_table_column = unsafe { core::mem::zeroed() };
-
-/// One of the eight integer types that the columns of a table have: `u8` to `u64`, `i8` to `i64`.
-pub trait TableInteger: ColumnInteger + TableArray {}
-
-/// The array of the library's column that has numbers of a type.
-pub trait TableArray: Sized {
-    /// Makes a slice that array.
-    fn put_into(column: &mut sys::jadvolni_table_column, numbers: &mut [Self]);
-}
-
-macro_rules! arrays {
-    ($($type:ident)*) => {$(
-        impl TableInteger for $type {}
-
-        impl TableArray for $type {
-            fn put_into(column: &mut sys::jadvolni_table_column, numbers: &mut [$type]) {
-                let capacity = numbers.len();
-                column.$type = sys::jadvolni_array { numbers: numbers.as_mut_ptr(), capacity };
-            }
-        }
-    )*};
-}
-
-arrays! { u8 u16 u32 u64 i8 i16 i32 i64 }
 
 /// How far a table was read.
 #[derive(Debug, Copy, Clone, PartialEq, Eq)]
@@ -212,12 +132,13 @@ pub struct TableError {
 }
 
 impl fmt::Display for TableError {
-    /// The fault, and where it is: `overflow at byte 5, in row 1, column 0`.
+    /// The fault, and where it is, with rows and columns from 1: `overflow at byte 5, in row 2, column 1`.
     fn fmt(&self, f: &mut fmt::Formatter<'_>) -> fmt::Result {
-        let TableError { row, column, error } = self;
-        match error.place() {
-            Some(_) => write!(f, "{error}, in row {row}, column {column}"),
-            None => write!(f, "{error}, in column {column}"),
+        let (row, column) = (self.row.saturating_add(1), self.column.saturating_add(1));
+        match self.error {
+            Error::InvalidTable => self.error.fmt(f),
+            error if error.place().is_none() => write!(f, "{error}, in column {column}"),
+            error => write!(f, "{error}, in row {row}, column {column}"),
         }
     }
 }
@@ -233,6 +154,15 @@ impl TableError {
     /// ```
     pub fn behind(self, rows: usize, bytes: usize) -> Self {
         TableError { row: self.row.saturating_add(rows), error: self.error.moved(bytes), ..self }
+    }
+
+    /// What the text tells of the fault, in which its rows and places count: its line, its row, and its cell.
+    ///
+    /// The time is that of a walk over the text up to the row.
+    pub fn in_text(&self, text: impl AsRef<[u8]>, dialect: &Dialect<'_>) -> TableFault {
+        let text = text.as_ref();
+        let start = row_place(text, dialect, self.row).unwrap_or_default().start;
+        TableFault::in_text(*self, start, text, dialect)
     }
 
     /// The line and the column of the fault's byte in its text, as of [`Error::position`].
@@ -257,7 +187,7 @@ impl core::error::Error for TableError {}
 /// assert_eq!(read, Ok(Table { rows: 2, stop: 23 }));
 /// let told = parse_table("1;rent;-80000\r\n2;;x\r\n", &ledger, &mut columns).unwrap_err();
 /// assert_eq!(told, TableError { row: 1, column: 2, error: Error::InvalidDigit(18) });
-/// assert_eq!(told.to_string(), "invalid digit at byte 18, in row 1, column 2");
+/// assert_eq!(told.to_string(), "invalid digit at byte 18, in row 2, column 3");
 /// assert_eq!((days, cents), ([1, 2, 0], [-80000, 7, 0]));
 /// ```
 pub fn parse_table(

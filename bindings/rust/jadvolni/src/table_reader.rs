@@ -2,68 +2,17 @@
 
 extern crate std;
 
-use crate::block::{read_once, Block};
+use crate::block::{grow, read_once, Block};
 use crate::header::{is_skipped, BYTE_ORDER_MARK};
 use crate::row_ends::RowEnds;
-use crate::table::capacity;
-use crate::{parse_table_part, Dialect, Header, HeaderError, TableColumn, TableError};
-use core::fmt;
-use std::io::{self, Read};
-
-/// Why a reader gives no further row. Rows and places count from where reading began.
-#[derive(Debug)]
-#[non_exhaustive]
-pub enum TableReadError {
-    /// A read failed. The rows before it were given, and the next call reads on there.
-    Io(io::Error),
-    /// A cell is wrong, or a column can't be read. No row follows. The numbers before the wrong cell that weren't
-    /// given yet are in the slices, those of `rows` rows and of a part of one.
-    Table {
-        /// How many rows of the slices were filled by the call.
-        rows: usize,
-        /// What is wrong, and where.
-        error: TableError,
-    },
-    /// The row that starts at this place has more bytes than a block. No row follows.
-    LongRow(usize),
-    /// Such a row, where a quote isn't closed in a block. No row follows.
-    OpenQuote {
-        /// The place at which the row starts.
-        row_start: usize,
-        /// The place of the quote.
-        quote: usize,
-    },
-    /// The first row is no header of the columns that were asked for.
-    Header(HeaderError),
-}
-
-impl fmt::Display for TableReadError {
-    fn fmt(&self, f: &mut fmt::Formatter<'_>) -> fmt::Result {
-        match self {
-            TableReadError::Io(error) => error.fmt(f),
-            TableReadError::Table { error, .. } => error.fmt(f),
-            TableReadError::LongRow(start) => {
-                write!(f, "the row at byte {start} has more bytes than a block")
-            }
-            TableReadError::OpenQuote { row_start, quote } => write!(
-                f,
-                "the quote at byte {quote} isn't closed, and its row, which starts at byte \
-                {row_start}, has more bytes than a block"
-            ),
-            TableReadError::Header(error) => error.fmt(f),
-        }
-    }
-}
-
-impl core::error::Error for TableReadError {
-    /// Why a read failed, as of [`crate::ReadError`].
-    fn source(&self) -> Option<&(dyn core::error::Error + 'static)> {
-        match self {
-            TableReadError::Io(error) => error.source(),
-            _ => None,
-        }
-    }
-}
+use crate::table_column::capacity;
+use crate::{
+    parse_table_part, parse_table_part_skipping, BadRow, Dialect, Header, TableColumn, TableError,
+    TableFault, TableReadError,
+};
+use std::boxed::Box;
+use std::io::Read;
+use std::vec::Vec;
 
 /// The rows of a reader's table. It holds one block of the text, however long that is.
 ///
@@ -94,9 +43,16 @@ pub struct TableReader<'a, R> {
     /// How many bytes were left when they last had no whole row, and what finds a row's end in more.
     tried: usize,
     ends: RowEnds,
-    /// The place of the block's first byte, and how many rows were given.
+    /// The place of the block's first byte, and how many rows were given or skipped, bad ones too.
     start: usize,
     row: usize,
+    bad_rows: usize,
+    /// How many line feeds stand before the bytes that are left.
+    lines: usize,
+    /// The names of the columns, where they were asked for.
+    header: Option<Header>,
+    /// Room for the bad rows of a block.
+    bad: Vec<BadRow>,
     /// Whether the reader has no byte more, and whether no row follows.
     is_last: bool,
     has_ended: bool,
@@ -123,6 +79,10 @@ impl<'a, R: Read> TableReader<'a, R> {
             ends: RowEnds::new(&dialect),
             start: 0,
             row: 0,
+            bad_rows: 0,
+            lines: 0,
+            header: None,
+            bad: Vec::new(),
             is_last: false,
             has_ended: false,
         }
@@ -163,6 +123,7 @@ impl<'a, R: Read> TableReader<'a, R> {
                     let header = Header::of_row(&row[..stop], &self.dialect)
                         .map_err(|error| error.behind(self.start + self.parsed));
                     self.pass(stop);
+                    self.header = header.as_ref().ok().cloned();
                     return header.map_err(TableReadError::Header);
                 }
             }
@@ -187,21 +148,120 @@ impl<'a, R: Read> TableReader<'a, R> {
                     if table.rows > 0 {
                         return Ok(table.rows);
                     }
-                    self.tried = self.filled - self.parsed;
-                    if self.is_last {
-                        self.has_ended = true;
-                    } else {
-                        self.fill()?;
-                    }
+                    self.fill_or_end()?;
                 }
-                Err(error) => {
-                    self.has_ended = true;
-                    let in_text = error.behind(self.row, self.start + self.parsed);
-                    return Err(TableReadError::Table { rows: error.row, error: in_text });
-                }
+                Err(error) => return Err(self.failed(error)),
             }
         }
         Ok(0)
+    }
+
+    /// Reads rows as [`TableReader::read`] does, but skips those at fault, and tells each of them.
+    ///
+    /// The right rows are stored one behind another. [`TableReader::bad_rows`] counts the others.
+    ///
+    /// ```
+    /// use jadvolni::{Dialect, TableColumn, TableReader};
+    /// let mut rows = TableReader::new(&b"id,cents\n1,5\nx,6\n3,7\n4\n"[..], Dialect::separated_by(b','));
+    /// let header = rows.header()?;
+    /// let (mut cents, mut faults) = ([0i64; 9], vec![]);
+    /// let (mut sum, most) = (0, 1);
+    /// loop {
+    ///     let mut columns = header.columns([("cents", TableColumn::of(&mut cents))])?;
+    ///     let count = rows.read_skipping(&mut columns, |fault| {
+    ///         if faults.len() < most {
+    ///             faults.push(fault);
+    ///         }
+    ///     })?;
+    ///     if count == 0 {
+    ///         break;
+    ///     }
+    ///     sum += cents[..count].iter().sum::<i64>();
+    /// }
+    /// assert_eq!((sum, rows.bad_rows()), (18, 1));
+    /// assert_eq!(faults[0].to_string(), r#"line 5: too few cells, none for "cents""#);
+    /// # Ok::<(), Box<dyn std::error::Error>>(())
+    /// ```
+    pub fn read_skipping(
+        &mut self,
+        columns: &mut [TableColumn<'_>],
+        mut tell: impl FnMut(TableFault),
+    ) -> Result<usize, TableReadError> {
+        while !self.has_ended && capacity(columns) > 0 {
+            if !self.may_have_row() {
+                self.fill()?;
+                continue;
+            }
+            let rows = self.parse_skipping(columns, &mut tell)?;
+            if rows > 0 {
+                return Ok(rows);
+            }
+            self.fill_or_end()?;
+        }
+        Ok(0)
+    }
+
+    /// How many rows were skipped since they were at fault.
+    pub fn bad_rows(&self) -> usize {
+        self.bad_rows
+    }
+
+    /// Parses the bytes that are left, tells the bad rows, and answers how many right ones there are.
+    fn parse_skipping(
+        &mut self,
+        columns: &mut [TableColumn<'_>],
+        tell: &mut impl FnMut(TableFault),
+    ) -> Result<usize, TableReadError> {
+        let text = &self.block[self.parsed..self.filled];
+        let (is_last, dialect) = (self.is_last, &self.dialect);
+        let (rows, bad_rows, stop) = loop {
+            let told = parse_table_part_skipping(text, is_last, dialect, columns, &mut self.bad);
+            match told.map(|told| (told.rows, told.bad_rows, told.stop)) {
+                Ok(told) if told.1 <= self.bad.len() => break told,
+                // Once there is room for all of them, the same call gives the same rows.
+                Ok(told) => {
+                    let room = told.1.max(self.bad.len().saturating_mul(2));
+                    grow(&mut self.bad, room, BadRow::NONE).map_err(TableReadError::Io)?;
+                }
+                Err(error) => return Err(self.failed(error)),
+            }
+        };
+        self.tell_bad_rows(bad_rows, tell);
+        self.pass(stop);
+        self.row += rows + bad_rows;
+        self.bad_rows += bad_rows;
+        Ok(rows)
+    }
+
+    /// Tells so many bad rows of the bytes that are left.
+    fn tell_bad_rows(&self, count: usize, tell: &mut impl FnMut(TableFault)) {
+        let text = &self.block[self.parsed..self.filled];
+        let (mut lines, mut counted) = (0, 0);
+        for bad in &self.bad[..count] {
+            lines += line_feeds(&text[counted..bad.start()]);
+            counted = bad.start();
+            let row = &text[bad.start()..bad.stop()];
+            let fault =
+                TableFault::in_first_row((*bad).into(), bad.start(), row, lines, &self.dialect);
+            tell(self.in_whole(fault));
+        }
+    }
+
+    /// What is told of an error in the bytes that are left, behind which no row follows.
+    fn failed(&mut self, error: TableError) -> TableReadError {
+        self.has_ended = true;
+        let text = &self.block[self.parsed..self.filled];
+        TableReadError::Table {
+            rows: error.row,
+            error: error.behind(self.row, self.start + self.parsed),
+            fault: Box::new(self.in_whole(error.in_text(text, &self.dialect))),
+        }
+    }
+
+    /// A fault of the bytes that are left as one of all that was read.
+    fn in_whole(&self, fault: TableFault) -> TableFault {
+        let name = self.header.as_ref().and_then(|header| header.name(fault.column));
+        fault.behind(self.row, self.lines, self.start + self.parsed).named(name)
     }
 
     /// Whether the bytes that are left may have a whole row: one ends there, or they are twice as many as had none.
@@ -212,11 +272,23 @@ impl<'a, R: Read> TableReader<'a, R> {
 
     /// Goes behind so many bytes, which are whole rows.
     fn pass(&mut self, size: usize) {
+        self.lines += line_feeds(&self.block[self.parsed..self.parsed + size]);
         self.parsed += size;
         if size > 0 {
             self.tried = 0;
             self.ends.begin();
         }
+    }
+
+    /// Reads once, behind the bytes that are left, which have no whole row. Where nothing follows them, that is the
+    /// end.
+    fn fill_or_end(&mut self) -> Result<(), TableReadError> {
+        self.tried = self.filled - self.parsed;
+        if self.is_last {
+            self.has_ended = true;
+            return Ok(());
+        }
+        self.fill()
     }
 
     /// Reads once, behind the bytes that are left.
@@ -248,4 +320,11 @@ impl<'a, R: Read> TableReader<'a, R> {
             None => TableReadError::LongRow(self.start),
         }
     }
+}
+
+/// How many line feeds a text has. They are summed up in bytes, as far as one has room, since so they are counted at
+/// once.
+fn line_feeds(text: &[u8]) -> usize {
+    let in_part = |part: &[u8]| part.iter().map(|byte| u8::from(*byte == b'\n')).sum::<u8>();
+    text.chunks(usize::from(u8::MAX)).map(|part| usize::from(in_part(part))).sum()
 }

@@ -86,7 +86,7 @@ fn what_is_no_header() {
     assert_eq!(header(b"a", comma().is_records(true)), invalid(0, Error::InvalidTable));
     let told =
         HeaderError::Invalid(TableError { row: 0, column: 1, error: Error::MisplacedQuote(2) });
-    let text = "the header is no row: misplaced quote at byte 2, in row 0, column 1";
+    let text = "the header is no row: misplaced quote at byte 2, in row 1, column 2";
     assert_eq!(
         (told.to_string().as_str(), HeaderError::NoHeader.to_string().as_str()),
         (text, "the table has no header")
@@ -130,7 +130,7 @@ fn columns_by_names_are_read_in_any_order() {
     let mut columns = Columns::by_header(text, &dialect, wanted).unwrap();
     let error = columns.read(text, &dialect).unwrap_err();
     assert_eq!(error, TableError { row: 2, column: 2, error: Error::InvalidDigit(49) });
-    assert_eq!(error.error.position(text), Some(Position { line: 6, column: 5 }));
+    assert_eq!(error.error.position(text), Some(Position { line: 5, column: 4 }));
     assert_eq!(columns.header().name(2).as_deref(), Some("cents\n"));
     assert_eq!((columns.len(), columns.header().name(3)), (3, None));
     let rows = &text[..text.len() - 7];

@@ -3,7 +3,7 @@
 
 use jadvolni::{
     parse_column, ColumnError, ColumnReader, Dialect, Error, Format, ReadError, TableColumn,
-    TableError, TableReadError, TableReader,
+    TableReadError, TableReader,
 };
 use std::io::{self, ErrorKind, Read};
 
@@ -152,14 +152,12 @@ fn a_reader_that_tells_more_than_it_gave_is_a_fault() {
 #[test]
 fn a_fault_is_told_once_by_its_chain() {
     let told = read(device(b"1,x", 4, None), 8).1.remove(0);
-    let row = TableError { row: 0, column: 0, error: Error::Empty(0) };
+    let mut rows = TableReader::new(&b"1\n,\n"[..], Dialect::separated_by(b','));
+    let row = rows.read(&mut [TableColumn::of(&mut [0u8; 9])]).unwrap_err();
     let failed = || io::Error::other("no disk");
     let chains: [(&dyn std::error::Error, &str); 4] = [
-        (&told, "invalid digit at byte 2, in field 1"),
-        (
-            &TableReadError::Table { rows: 0, error: row },
-            "missing digit at byte 0, in row 0, column 0",
-        ),
+        (&told, "invalid digit at byte 2, in field 2"),
+        (&row, "line 2, column 1: \"\": missing digit at byte 0 of the cell"),
         (&ReadError::Io(failed()), "no disk"),
         (&TableReadError::Io(failed()), "no disk"),
     ];

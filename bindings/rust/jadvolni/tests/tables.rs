@@ -167,7 +167,7 @@ fn room_formats_and_returns() {
     assert_eq!(told, Ok(Table { rows: 2, stop: 9 }));
     let lacks = TableError { row: 0, column: 2, error: Error::MissingReturn(2) };
     assert_eq!(parse_table("1,\n", &dialect, &mut columns), Err(lacks));
-    assert_eq!(lacks.to_string(), "missing carriage return at byte 2, in row 0, column 2");
+    assert_eq!(lacks.to_string(), "missing carriage return at byte 2, in row 1, column 3");
     assert_eq!(bytes, [1, 0]);
     let full = parse_table("x", &comma(), &mut [TableColumn::of(&mut empty)]);
     assert_eq!(full, Ok(Table { rows: 0, stop: 0 }));
@@ -179,7 +179,7 @@ fn room_formats_and_returns() {
     let error = TableError { row: 0, column: 0, error: Error::InvalidMantissaRadix };
     assert_eq!(
         (told, error.to_string()),
-        (Err(error), "the radix has to be 2 to 36, in column 0".into())
+        (Err(error), "the radix has to be 2 to 36, in column 1".into())
     );
 }
 

@@ -114,7 +114,7 @@ fn the_program() {
     let right = answer("1;rent;-80000\n2;\"a;\n\";\n3;;7\n4;;-5");
     assert_eq!(right, Ok("4 rows, the greatest amount is 7\n".into()));
     assert_eq!(answer("1;;\n"), Ok("1 rows, the greatest amount is none\n".into()));
-    let wrong = "FILE: invalid digit at byte 8, in row 1, column 2";
+    let wrong = "FILE, line 2, column 3: \"x\": invalid digit at byte 0 of the cell";
     assert_eq!(answer("1;;2\n3;;x"), Err(wrong.into()));
     let full = &mut std::fs::File::create("/dev/full").unwrap();
     let told = run(["/dev/null".as_ref(), "1".as_ref()], full).unwrap_err();

@@ -28,7 +28,9 @@ pub fn run(words: &[OsString], mut output: impl Write) -> Result<(), String> {
     let told = |why: &dyn ToString| format!("{}: {}", path.to_string_lossy(), why.to_string());
     let text = fs::read(path).map_err(|error| told(&error))?;
     let (blocks, whole) = read_in_threads(&text, true, threads.into(), read_ledger);
-    let rows = whole.map_err(|fault| told(&fault))?.rows;
+    let rows = whole
+        .map_err(|error| format!("{}, {}", path.to_string_lossy(), error.in_text(&text, &LEDGER)))?
+        .rows;
     let amounts = blocks.iter().flat_map(|(cents, bits)| {
         (0..cents.len()).filter(|&row| is_present(bits, row)).map(|row| cents[row])
     });

@@ -1,0 +1,57 @@
+//! Adds up a column by its name, and tells the rows that can't be read: bad_rows NAME < FILE
+//!
+//! The file may have any size. Cells stand between commas, maybe within quotes, and the first row has the names.
+
+use jadvolni::{Dialect, TableColumn, TableReader};
+use std::error::Error;
+use std::io::{self, Read, Write};
+use std::process::ExitCode;
+
+/// So many bad rows are told.
+const MOST: usize = 10;
+
+/// Tells the sum of the numbers to one writer, and the first bad rows with their count to another.
+pub fn run(
+    name: &str,
+    input: impl Read,
+    mut output: impl Write,
+    mut told: impl Write,
+) -> Result<(), Box<dyn Error>> {
+    let mut rows = TableReader::new(input, Dialect::separated_by(b',').has_quotes(true));
+    let header = rows.header()?;
+    let (mut numbers, mut sum, mut faults) = ([0i64; 1000], 0i128, vec![]);
+    loop {
+        let mut columns = header.columns([(name, TableColumn::of(&mut numbers))])?;
+        let count = rows.read_skipping(&mut columns, |fault| {
+            if faults.len() < MOST {
+                faults.push(fault);
+            }
+        })?;
+        if count == 0 {
+            break;
+        }
+        sum += numbers[..count].iter().map(|number| i128::from(*number)).sum::<i128>();
+    }
+    for fault in &faults {
+        writeln!(told, "{fault}")?;
+    }
+    if rows.bad_rows() > 0 {
+        writeln!(told, "{} bad rows", rows.bad_rows())?;
+    }
+    Ok(writeln!(output, "{sum}")?)
+}
+
+fn main() -> ExitCode {
+    let words: Vec<_> = std::env::args_os().skip(1).collect();
+    let [name] = &words[..] else {
+        eprintln!("usage: bad_rows NAME < FILE");
+        return ExitCode::from(2);
+    };
+    match run(&name.to_string_lossy(), io::stdin(), io::stdout(), io::stderr()) {
+        Ok(()) => ExitCode::SUCCESS,
+        Err(error) => {
+            eprintln!("{error}");
+            ExitCode::FAILURE
+        }
+    }
+}

@@ -1,0 +1,204 @@
+//! Rows at fault: where one is, and tables whose bad rows are skipped.
+
+use crate::table_column::capacity;
+use crate::{Dialect, Error, TableColumn, TableError, TableFault};
+use core::fmt;
+use core::ops::Range;
+use jadvolni_sys as sys;
+
+/// A row at fault: its number, what is wrong with its first wrong cell, and where the row is.
+///
+/// Its text is what a [`TableError`] says. [`BadRow::in_text`] tells its line and its cell too.
+#[derive(Copy, Clone, PartialEq, Eq)]
+#[repr(transparent)]
+pub struct BadRow(sys::jadvolni_bad_row);
+
+impl BadRow {
+    /// What stands in a slice before a call has written there.
+    pub const NONE: BadRow = BadRow(sys::jadvolni_bad_row {
+        status: 0,
+        reserved: [0; 20],
+        row: 0,
+        column: 0,
+        place: 0,
+        start: 0,
+        stop: 0,
+    });
+
+    /// The number of the row among all, right and bad, counted from 0.
+    pub fn row(&self) -> usize {
+        self.0.row
+    }
+
+    /// The column of the fault, counted from 0: so many cells of the row are right.
+    pub fn column(&self) -> usize {
+        self.0.column
+    }
+
+    /// What is wrong, with its place in the text. Of [`BadRow::NONE`] it is [`Error::Unknown`].
+    pub fn error(&self) -> Error {
+        let outcome = sys::jadvolni_result { status: self.0.status, place: self.0.place };
+        Error::of(outcome).unwrap_or(Error::Unknown(0))
+    }
+
+    /// The place at which the row starts.
+    pub fn start(&self) -> usize {
+        self.0.start
+    }
+
+    /// The place behind the row, what ends it, and the empty rows behind it that are skipped.
+    pub fn stop(&self) -> usize {
+        self.0.stop
+    }
+
+    /// This row of a part of a text as one of the text, in which so many rows and bytes stand before the part.
+    pub fn behind(mut self, rows: usize, bytes: usize) -> BadRow {
+        self.0.row = self.0.row.saturating_add(rows);
+        for place in [&mut self.0.place, &mut self.0.start, &mut self.0.stop] {
+            *place = place.saturating_add(bytes);
+        }
+        self
+    }
+
+    /// What the text tells of the fault, in which its places count: its line, and its cell.
+    pub fn in_text(&self, text: impl AsRef<[u8]>, dialect: &Dialect<'_>) -> TableFault {
+        TableFault::in_text(TableError::from(*self), self.start(), text.as_ref(), dialect)
+    }
+}
+
+impl Default for BadRow {
+    fn default() -> BadRow {
+        BadRow::NONE
+    }
+}
+
+impl From<BadRow> for TableError {
+    fn from(bad: BadRow) -> TableError {
+        TableError { row: bad.row(), column: bad.column(), error: bad.error() }
+    }
+}
+
+impl fmt::Debug for BadRow {
+    fn fmt(&self, f: &mut fmt::Formatter<'_>) -> fmt::Result {
+        let mut shown = f.debug_struct("BadRow");
+        shown.field("row", &self.row()).field("column", &self.column());
+        shown.field("error", &self.error()).field("start", &self.start());
+        shown.field("stop", &self.stop()).finish()
+    }
+}
+
+impl fmt::Display for BadRow {
+    fn fmt(&self, f: &mut fmt::Formatter<'_>) -> fmt::Result {
+        TableError::from(*self).fmt(f)
+    }
+}
+
+/// How far a table was read whose bad rows were skipped.
+#[derive(Debug, Copy, Clone, PartialEq, Eq)]
+pub struct Skipping<'b> {
+    /// How many right rows were read.
+    pub rows: usize,
+    /// How many bad rows were skipped, also those that had no room.
+    pub bad_rows: usize,
+    /// The bad rows, in order, as far as there was room.
+    pub bad: &'b [BadRow],
+    /// Where reading stopped: the text's end, or the start of the row behind the last right one that had room.
+    pub stop: usize,
+}
+
+/// Reads the rows of a text, but skips and counts those at fault. What is known of these goes to a slice, as far as it
+/// has room.
+///
+/// The right rows are stored one behind another, all of them and no other. A bad row is read up to its fault, into the
+/// place of the next right one: so where there is room behind the last row, the place there may have changed in each
+/// slice. A fault is what is wrong with the table or with a column.
+///
+/// ```
+/// use jadvolni::{parse_table_skipping, BadRow, Dialect, Error, TableColumn};
+/// let (mut days, mut cents, mut bad) = ([0u16; 9], [0i64; 9], [BadRow::NONE; 9]);
+/// let ledger = Dialect::separated_by(b';');
+/// let mut columns = [TableColumn::of(&mut days), TableColumn::UNREAD, TableColumn::of(&mut cents)];
+/// let text = "365;rent;-80000\n366;x\n367;;7\n";
+/// let read = parse_table_skipping(text, &ledger, &mut columns, &mut bad)?;
+/// assert_eq!((read.rows, read.bad_rows, read.stop), (2, 1, text.len()));
+/// let [row] = read.bad else { panic!() };
+/// assert_eq!((row.row(), row.column(), row.error()), (1, 2, Error::TooFewCells(21)));
+/// assert_eq!(&text[row.start()..row.stop()], "366;x\n");
+/// assert_eq!(row.in_text(text, &ledger).to_string(), "line 2: too few cells, none for column 3");
+/// assert_eq!(days[..2], [365, 367]);
+/// assert_eq!(cents[..2], [-80000, 7]);
+/// # Ok::<(), jadvolni::TableError>(())
+/// ```
+pub fn parse_table_skipping<'b>(
+    text: impl AsRef<[u8]>,
+    dialect: &Dialect<'_>,
+    columns: &mut [TableColumn<'_>],
+    bad: &'b mut [BadRow],
+) -> Result<Skipping<'b>, TableError> {
+    parse_table_part_skipping(text, true, dialect, columns, bad)
+}
+
+/// Reads the whole rows of a part of a text, as a block of a file, and all of it where it is the last part, but skips
+/// and counts those at fault.
+///
+/// Put the bytes from `stop` on in front of the next part. Rows and places count from the part's start:
+/// [`BadRow::behind`] has those of the text.
+pub fn parse_table_part_skipping<'b>(
+    text: impl AsRef<[u8]>,
+    is_last: bool,
+    dialect: &Dialect<'_>,
+    columns: &mut [TableColumn<'_>],
+    bad: &'b mut [BadRow],
+) -> Result<Skipping<'b>, TableError> {
+    let text = text.as_ref();
+    // SAFETY: as of `parse_table_part`, and `bad` is a slice that is this call's alone, of the library's structs.
+    let told = unsafe {
+        sys::jadvolni_parse_table_skipping(
+            text.as_ptr().cast(),
+            text.len(),
+            is_last,
+            &dialect.0,
+            capacity(columns),
+            columns.as_mut_ptr().cast(),
+            columns.len(),
+            bad.as_mut_ptr().cast(),
+            bad.len(),
+        )
+    };
+    match Error::of(sys::jadvolni_result { status: told.status, place: told.place }) {
+        None => Ok(Skipping {
+            rows: told.rows,
+            bad_rows: told.bad_rows,
+            bad: &bad[..told.bad_rows.min(bad.len())],
+            stop: told.place,
+        }),
+        Some(error) => Err(TableError { row: told.rows, column: told.column, error }),
+    }
+}
+
+/// Where the row of a number stands, counted from 0, with what ends it and the empty rows behind it that are skipped.
+///
+/// Where the text has no such row it is empty, at the text's end. A quote that nothing closes ends there, and so does
+/// its row. The time is that of a walk over the text up to the row. A fault is one of the table.
+///
+/// ```
+/// use jadvolni::{row_place, Dialect};
+/// let (text, comma) = ("1,2\nx,4\n5,6", Dialect::separated_by(b','));
+/// assert_eq!(&text[row_place(text, &comma, 1)?], "x,4\n");
+/// assert!(row_place(text, &comma, 3)?.is_empty());
+/// # Ok::<(), jadvolni::Error>(())
+/// ```
+pub fn row_place(
+    text: impl AsRef<[u8]>,
+    dialect: &Dialect<'_>,
+    row: usize,
+) -> Result<Range<usize>, Error> {
+    let text = text.as_ref();
+    // SAFETY: the pointers are those of a slice with its length, and of a borrowed dialect.
+    let told =
+        unsafe { sys::jadvolni_row_place(text.as_ptr().cast(), text.len(), &dialect.0, row) };
+    match Error::of(sys::jadvolni_result { status: told.status, place: 0 }) {
+        None => Ok(told.start..told.stop),
+        Some(error) => Err(error),
+    }
+}

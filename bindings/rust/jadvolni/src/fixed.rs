@@ -1,0 +1,116 @@
+//! Fixed-point numbers, as amounts of money.
+
+use crate::{integer, Error, Format, Integer};
+use jadvolni_sys as sys;
+
+/// How fixed-point numbers are written: an integer part, and digits behind a point.
+///
+/// Begin with [`Fixed::of_places`], and set what differs.
+///
+/// ```
+/// use jadvolni::{parse_fixed, Error, Fixed};
+/// const AMOUNT: Fixed = Fixed::of_places(2).point(b',').group_separator(Some(b'.'));
+/// assert_eq!(parse_fixed::<i64>("-1.234,50", &AMOUNT), Ok(-123450));
+/// assert_eq!(parse_fixed::<i64>("12,505", &AMOUNT), Err(Error::InvalidDigit(5)));
+/// ```
+///
+/// Anything may be set: the calls refuse a description that breaks a rule, and `error` tells it beforehand.
+#[derive(Debug, Copy, Clone, PartialEq, Eq, Hash)]
+pub struct Fixed(pub(crate) sys::jadvolni_fixed);
+
+impl Fixed {
+    /// Numbers with so many digits behind a point, at most 38, which are told in units of the last one: with two places
+    /// `12.50` is 1250. With none no point is read. The integer part has the standard format.
+    #[must_use]
+    pub const fn of_places(places: u8) -> Fixed {
+        let integer = Format::STANDARD.0;
+        Fixed(sys::jadvolni_fixed {
+            integer,
+            point: b'.',
+            places,
+            takes_fewer: 0,
+            reserved: [0; 13],
+        })
+    }
+
+    /// What the integer part looks like: its sign, its separators, its zeros. Its radix is 10, for which 0 stands with
+    /// a digit required, and it has neither prefix, suffix, literal prefixes nor octal zeros.
+    #[must_use]
+    pub const fn integer(mut self, format: Format) -> Fixed {
+        self.0.integer = format.0;
+        self
+    }
+
+    /// A byte that may stand between two digits of the integer part, where it counts for nothing: `.` in `1.234,50`.
+    #[must_use]
+    pub const fn group_separator(self, byte: Option<u8>) -> Fixed {
+        let format = Format(self.0.integer);
+        self.integer(format.digit_separator(byte).integer_internal_digit_separator(byte.is_some()))
+    }
+
+    /// The byte before the fraction, which is no digit, no sign and not the separator; 0 is `.`, which it is at first.
+    #[must_use]
+    pub const fn point(mut self, byte: u8) -> Fixed {
+        self.0.point = byte;
+        self
+    }
+
+    /// Whether fewer digits are taken than there are places, as if zeros stood for the others, and none without a
+    /// point.
+    #[must_use]
+    pub const fn takes_fewer(mut self, is_set: bool) -> Fixed {
+        self.0.takes_fewer = is_set as u8;
+        self
+    }
+
+    /// The first rule that the description breaks, and `None` where it breaks none.
+    ///
+    /// ```
+    /// use jadvolni::{Error, Fixed};
+    /// assert_eq!(Fixed::of_places(2).error(), None);
+    /// assert_eq!(Fixed::of_places(39).error(), Some(Error::InvalidPlaces));
+    /// ```
+    pub fn error(&self) -> Option<Error> {
+        // SAFETY: the call reads the description that it borrows, and nothing else.
+        let status = unsafe { sys::jadvolni_fixed_error(&self.0) };
+        Error::of(sys::jadvolni_result { status, place: 0 })
+    }
+}
+
+/// The fixed-point number that the whole text is, as a `T` in units of the last place.
+///
+/// It is exact, or there is a fault, and nothing is rounded. The type's end is told by the digit with which it is
+/// passed, and by the place behind the text where only zeros pass it that aren't written.
+///
+/// ```
+/// use jadvolni::{parse_fixed, Error, Fixed};
+/// let cents = Fixed::of_places(2).takes_fewer(true);
+/// assert_eq!(parse_fixed::<i64>("-0.05", &cents), Ok(-5));
+/// assert_eq!(parse_fixed::<i64>("12.5", &cents), Ok(1250));
+/// assert_eq!(parse_fixed::<i64>("12.", &cents), Err(Error::Empty(3)));
+/// assert_eq!(parse_fixed::<u8>("3", &cents), Err(Error::Overflow(1)));
+/// assert_eq!(parse_fixed::<i64>("12.5", &cents.takes_fewer(false)), Err(Error::Empty(4)));
+/// ```
+#[inline]
+pub fn parse_fixed<T: Integer>(text: impl AsRef<[u8]>, fixed: &Fixed) -> Result<T, Error> {
+    integer::fixed(text.as_ref(), fixed)
+}
+
+/// The fixed-point number in front of the text as a `T`, and where reading stopped.
+///
+/// A point without a digit behind it isn't read where fewer places are taken. A digit behind the last place is a fault.
+///
+/// ```
+/// use jadvolni::{parse_fixed_front, Error, Fixed};
+/// let cents = Fixed::of_places(2).takes_fewer(true);
+/// assert_eq!(parse_fixed_front::<i64>("12.50 EUR", &cents), Ok((1250, 5)));
+/// assert_eq!(parse_fixed_front::<i64>("12. And", &cents), Ok((1200, 2)));
+/// assert_eq!(parse_fixed_front::<i64>("12.505", &cents), Err(Error::InvalidDigit(5)));
+/// ```
+#[inline]
+pub fn parse_fixed_front<T: Integer>(
+    text: impl AsRef<[u8]>,
+    fixed: &Fixed,
+) -> Result<(T, usize), Error> {
+    integer::fixed_front(text.as_ref(), fixed)
+}

@@ -1,0 +1,218 @@
+//! A fault of a table with what its text tells: its line, its row, and its cell.
+
+#[cfg(feature = "std")]
+extern crate std;
+
+use crate::cells::{cells_of, content_of_row};
+use crate::row_ends::RowEnds;
+use crate::{Dialect, Error, Excerpt, Position, TableError};
+use core::fmt;
+#[cfg(feature = "std")]
+use std::{boxed::Box, string::String};
+
+/// Why a table isn't read to its end, or why a row was skipped, with what the text tells of it. It may outlive the
+/// text.
+///
+/// [`TableError::in_text`] and [`crate::BadRow::in_text`] make one. With the feature `std`, `Header::fault` and
+/// `TableReader` do, and these know the column's name.
+///
+/// ```
+/// use jadvolni::{parse_table, Dialect, Error, TableColumn};
+/// let (text, comma) = ("1,\"a\nb\",7\n2,c,12x\n", Dialect::separated_by(b',').has_quotes(true));
+/// let (mut ids, mut cents) = ([0u8; 9], [0i64; 9]);
+/// let mut columns = [TableColumn::of(&mut ids), TableColumn::UNREAD, TableColumn::of(&mut cents)];
+/// let fault = parse_table(text, &comma, &mut columns).unwrap_err().in_text(text, &comma);
+/// assert_eq!(fault.to_string(), r#"line 3, column 3: "12x": invalid digit at byte 2 of the cell"#);
+/// assert_eq!((fault.row, fault.line, fault.column, fault.place()), (1, 2, 2, Some(16)));
+/// assert_eq!(&text[fault.row_start..fault.row_stop], "2,c,12x\n");
+/// assert_eq!((fault.text(), fault.error.message()), (Some(&b"12x"[..]), "invalid digit"));
+/// ```
+#[derive(Debug, Clone, PartialEq, Eq)]
+#[non_exhaustive]
+pub struct TableFault {
+    /// The row, counted from 0. A header is none.
+    pub row: usize,
+    /// The column, counted from 0: so many cells of the row are right.
+    pub column: usize,
+    /// What is wrong. A fault of the table or of a format has no place: then the line and both places of the row are 0,
+    /// and there is no cell.
+    pub error: Error,
+    /// The line of the place, counted from 0: so many line feeds stand before it.
+    pub line: usize,
+    /// The place at which the row starts.
+    pub row_start: usize,
+    /// The place behind the row and what ends it.
+    pub row_stop: usize,
+    is_record: bool,
+    cell: Option<Cell>,
+    #[cfg(feature = "std")]
+    name: Option<Box<str>>,
+}
+
+/// A wrong cell: its text, and the place of the fault in it.
+#[derive(Debug, Clone, PartialEq, Eq)]
+struct Cell {
+    text: Excerpt,
+    place: usize,
+}
+
+impl Cell {
+    /// The cell of a column in a row that an error is about, if the place in the row is one of it.
+    fn of(error: &TableError, row: &[u8], place: usize, dialect: &Dialect<'_>) -> Option<Cell> {
+        if matches!(error.error, Error::TooFewCells(_) | Error::MissingReturn(_)) {
+            return None;
+        }
+        let content = content_of_row(row, dialect);
+        // Behind the cells of given widths stands what is too much.
+        let behind = place.min(content.len())..content.len();
+        let found = cells_of(content, dialect).nth(error.column).unwrap_or(behind);
+        let place = place.checked_sub(found.start).filter(|place| *place <= found.len())?;
+        Some(Cell { text: Excerpt::of(&content[found]), place })
+    }
+}
+
+impl TableFault {
+    /// That of an error in the first of the rows that these bytes are, which start at a place and behind so many line
+    /// feeds.
+    pub(crate) fn in_first_row(
+        error: TableError,
+        start: usize,
+        rows: &[u8],
+        lines: usize,
+        dialect: &Dialect<'_>,
+    ) -> TableFault {
+        let Some(place) = error.error.place() else { return TableFault::without_place(error) };
+        let (row, at) = (RowEnds::first_row(rows, dialect), place.saturating_sub(start));
+        TableFault {
+            line: lines + Position::of(row, at).line,
+            row_start: start,
+            row_stop: start + row.len(),
+            is_record: dialect.0.is_records != 0,
+            cell: Cell::of(&error, row, at, dialect),
+            ..TableFault::without_place(error)
+        }
+    }
+
+    /// That of an error of the table or of a format.
+    fn without_place(error: TableError) -> TableFault {
+        TableFault {
+            row: error.row,
+            column: error.column,
+            error: error.error,
+            line: 0,
+            row_start: 0,
+            row_stop: 0,
+            is_record: false,
+            cell: None,
+            #[cfg(feature = "std")]
+            name: None,
+        }
+    }
+
+    /// That of an error in a row that starts at a place of a text.
+    pub(crate) fn in_text(
+        error: TableError,
+        start: usize,
+        text: &[u8],
+        dialect: &Dialect<'_>,
+    ) -> TableFault {
+        let rows = text.get(start..).unwrap_or(&[]);
+        TableFault::in_first_row(error, start, rows, Position::of(text, start).line, dialect)
+    }
+
+    /// The place of a fault of the text, and `None` for a fault of a format or of the table.
+    pub fn place(&self) -> Option<usize> {
+        self.error.place()
+    }
+
+    /// The cell as it stands in the text, quotes and blanks included, cut at 40 bytes. There is none where a row has
+    /// too few cells or lacks its return.
+    pub fn text(&self) -> Option<&[u8]> {
+        self.cell.as_ref().map(|cell| cell.text.as_bytes())
+    }
+
+    /// The row as an editor shows it, or its number where rows are no lines.
+    fn put_row(&self, f: &mut fmt::Formatter<'_>) -> fmt::Result {
+        match self.is_record {
+            true => write!(f, "row {}", self.row.saturating_add(1)),
+            false => write!(f, "line {}", self.line.saturating_add(1)),
+        }
+    }
+
+    /// The column by its name, or by its number.
+    fn put_column(&self, f: &mut fmt::Formatter<'_>) -> fmt::Result {
+        #[cfg(feature = "std")]
+        if let Some(name) = &self.name {
+            return crate::header::told(f, name);
+        }
+        write!(f, "column {}", self.column.saturating_add(1))
+    }
+
+    /// A fault of the table, or of the format of a column.
+    fn put_without_place(&self, f: &mut fmt::Formatter<'_>) -> fmt::Result {
+        if self.error != Error::InvalidTable {
+            self.put_column(f)?;
+            f.write_str(": ")?;
+        }
+        f.write_str(self.error.message())
+    }
+}
+
+#[cfg(feature = "std")]
+impl TableFault {
+    /// This fault, in a column of a name.
+    pub(crate) fn named(self, name: Option<impl Into<String>>) -> TableFault {
+        TableFault { name: name.map(|name| name.into().into_boxed_str()), ..self }
+    }
+
+    /// This fault of a part of a text as one of the text, in which so many rows, line feeds and bytes stand before the
+    /// part.
+    pub(crate) fn behind(self, rows: usize, lines: usize, bytes: usize) -> TableFault {
+        if self.place().is_none() {
+            return self;
+        }
+        TableFault {
+            row: self.row.saturating_add(rows),
+            error: self.error.moved(bytes),
+            line: self.line.saturating_add(lines),
+            row_start: self.row_start.saturating_add(bytes),
+            row_stop: self.row_stop.saturating_add(bytes),
+            ..self
+        }
+    }
+
+    /// The name of the column, if a header was read that has it.
+    pub fn name(&self) -> Option<&str> {
+        self.name.as_deref()
+    }
+}
+
+impl fmt::Display for TableFault {
+    /// The fault as it is told to people, with lines and columns from 1:
+    /// `line 5, "amount": "12,5x": invalid digit at byte 4 of the cell`. Of records it tells the number of the row.
+    fn fmt(&self, f: &mut fmt::Formatter<'_>) -> fmt::Result {
+        if self.place().is_none() {
+            return self.put_without_place(f);
+        }
+        self.put_row(f)?;
+        let message = self.error.message();
+        let Some(cell) = &self.cell else {
+            write!(f, ": {message}")?;
+            if matches!(self.error, Error::TooFewCells(_)) {
+                f.write_str(", none for ")?;
+                self.put_column(f)?;
+            }
+            return Ok(());
+        };
+        f.write_str(", ")?;
+        self.put_column(f)?;
+        f.write_str(": ")?;
+        cell.text.put_quoted(f)?;
+        match self.error {
+            Error::TooManyCells(_) => write!(f, ": {message}"),
+            _ => write!(f, ": {message} at byte {} of the cell", cell.place),
+        }
+    }
+}
+
+impl core::error::Error for TableFault {}

@@ -1,0 +1,369 @@
+// jadvolni_faults.hpp - what a text tells of a fault of its table: the line, the row, and the cell. It is a part of
+// jadvolni.hpp, which includes it.
+#pragma once
+
+#ifndef JADVOLNI_HPP_
+#error "include jadvolni.hpp, of which this is a part"
+#endif
+
+namespace jadvolni {
+
+namespace detail {
+
+// Whether a row ends in bytes that come little by little: each is looked at once.
+class row_ends {
+public:
+    explicit row_ends(const table &how) noexcept : has_quotes_(how.has_quotes != 0)
+    {
+        if (!how.is_records) return;
+        for (std::size_t column = 0; column < how.width_count; ++column) {
+            auto room = std::size_t(-1) - record_size_;
+            record_size_ += std::min(room, how.widths[column]);
+        }
+        record_size_ = std::max<std::size_t>(record_size_, 1);
+    }
+
+    // Another row begins.
+    void begin() noexcept { seen_ = quote_ = closed_ = 0, is_open_ = false; }
+
+    // Whether the row ends in its first bytes, of which those that it was asked before are the front.
+    bool ends_in(const char *row, std::size_t size) noexcept
+    {
+        if (record_size_) return size >= record_size_;
+        for (; seen_ < size; ++seen_) {
+            if (row[seen_] == '"' && has_quotes_) see_quote();
+            else if (row[seen_] == '\n' && !is_open_) return true;
+        }
+        return false;
+    }
+
+    // Where the row stops, that ends in what was seen.
+    std::size_t stop() const noexcept { return record_size_ ? record_size_ : seen_ + 1; }
+
+    // The place in the row of a quote that isn't closed in what was seen, if there is one.
+    std::optional<std::size_t> open_quote() const noexcept
+    {
+        return is_open_ ? std::optional<std::size_t>(quote_) : std::nullopt;
+    }
+
+private:
+    // A quote directly behind one that closes makes with it one that is doubled, and the cell goes on.
+    void see_quote() noexcept
+    {
+        if (is_open_) closed_ = seen_ + 1;
+        else if (closed_ != seen_ || seen_ == 0) quote_ = seen_;
+        is_open_ = !is_open_;
+    }
+
+    // The size of a record, or 0; how many bytes were seen, the last quote that opens, and the place behind the
+    // last one that closes.
+    std::size_t record_size_ = 0, seen_ = 0, quote_ = 0, closed_ = 0;
+    bool has_quotes_, is_open_ = false;
+};
+
+// The first row of a text, with what ends it; all of the text where nothing does.
+inline std::string_view first_row(std::string_view text, const table &how) noexcept
+{
+    row_ends ends(how);
+    return ends.ends_in(text.data(), text.size()) ? text.substr(0, ends.stop()) : text;
+}
+
+// Whether a carriage return before the line feed of a row is no byte of it.
+inline bool takes_returns(const table &how) noexcept
+{
+    return how.has_returns != 0 || how.allows_returns != 0;
+}
+
+// A row without what ends it.
+inline std::string_view content_of_row(std::string_view row, const table &how) noexcept
+{
+    if (how.is_records || row.empty() || row.back() != '\n') return row;
+    row.remove_suffix(1);
+    if (takes_returns(how) && !row.empty() && row.back() == '\r') row.remove_suffix(1);
+    return row;
+}
+
+// The cells of a row, one after the other: those of the table's widths, or those between separators outside quotes.
+class row_cells {
+public:
+    // Of a row without what ends it.
+    row_cells(std::string_view row, const table &how) noexcept : left_(row), how_(how) {}
+
+    // The next cell; none behind the last.
+    std::optional<std::string_view> next() noexcept
+    {
+        if (is_over_ || (how_.width_count && column_ == how_.width_count)) return std::nullopt;
+        const auto size = how_.width_count ? std::min(how_.widths[column_], left_.size()) : size_by_separator();
+        const auto cell = left_.substr(0, size);
+        is_over_ = !how_.width_count && size == left_.size();
+        left_.remove_prefix(how_.width_count || is_over_ ? size : size + 1);
+        ++column_;
+        return cell;
+    }
+
+    // What stands behind the cells so far.
+    std::string_view left() const noexcept { return left_; }
+
+private:
+    // How many bytes stand before the next separator, or all that are left.
+    std::size_t size_by_separator() const noexcept
+    {
+        const auto separator = static_cast<char>(how_.separator);
+        const bool has_quotes = how_.has_quotes && separator != '"';
+        bool is_within = false;
+        for (std::size_t place = 0; place < left_.size(); ++place) {
+            is_within ^= has_quotes && left_[place] == '"';
+            if (left_[place] == separator && !is_within) return place;
+        }
+        return left_.size();
+    }
+
+    std::string_view left_;
+    const table &how_;
+    std::size_t column_ = 0;
+    bool is_over_ = false;
+};
+
+// Text of no more bytes than there is room for, as C has it.
+template <std::size_t Room>
+class short_text {
+public:
+    const char *c_str() const noexcept { return bytes_; }
+    void clear() noexcept { bytes_[size_ = 0] = 0; }
+
+    void put(char byte) noexcept
+    {
+        if (size_ + 1 < Room) bytes_[size_++] = byte;
+        bytes_[size_] = 0;
+    }
+    void put(std::string_view words) noexcept
+    {
+        for (char byte : words) put(byte);
+    }
+    void put(std::size_t number) noexcept
+    {
+        if (number >= 10) put(number / 10);
+        put(static_cast<char>('0' + number % 10));
+    }
+
+    // A text within quotes, with escapes for these, for backslashes and for bytes that can't be printed.
+    void put_quoted(std::string_view text, bool is_cut) noexcept
+    {
+        put('"');
+        for (char byte : text) put_escaped(byte);
+        put(is_cut ? std::string_view("\"..") : std::string_view("\""));
+    }
+
+private:
+    void put_escaped(char byte) noexcept
+    {
+        const auto code = static_cast<unsigned char>(byte);
+        constexpr std::string_view escaped = "\t\n\r\"\\", by = "tnr\"\\";
+        if (auto index = escaped.find(byte); index != escaped.npos) {
+            put('\\');
+            put(by[index]);
+        } else if (code < 0x20 || code == 0x7F) {
+            put("\\x");
+            put("0123456789abcdef"[code >> 4]);
+            put("0123456789abcdef"[code & 15]);
+        } else {
+            put(byte);
+        }
+    }
+
+    char bytes_[Room] = {};
+    std::size_t size_ = 0;
+};
+
+// The front of a text of so many bytes at most, cut within no character of UTF-8.
+inline std::string_view front_of(std::string_view text, std::size_t most) noexcept
+{
+    if (text.size() <= most) return text;
+    auto size = most;
+    while (size > 0 && most - size < 3 && (static_cast<unsigned char>(text[size]) & 0xC0) == 0x80) --size;
+    return text.substr(0, size);
+}
+
+} // namespace detail
+
+// A fault of a table with what its text tells: in which line it is, where its row is, and what its cell has. It says so
+// in words too, and outlives the text:
+//
+//     auto read = jadvolni::parse_table(text, ledger, 1000, columns);
+//     if (!read) std::cerr << path << ", " << jadvolni::table_fault(read, text, ledger).what() << '\n';
+//     // bank.csv, line 5, column 3: "12x": invalid digit at byte 2 of the cell
+//
+// Rows, columns, lines and places count from 0. In words lines and columns count from 1, as an editor does.
+class table_fault : public outcome {
+public:
+    // That of what was read of a text, in which its rows and places count. The time is that of a walk over the text.
+    table_fault(const table_result &read, std::string_view text, const table &how) noexcept
+        : table_fault(read, jadvolni_row_place(text.data(), text.size(), &how, read.rows()).start, text, how)
+    {
+    }
+
+    // The same, where the row starts at a place that is known.
+    table_fault(const table_result &read, std::size_t row_start, std::string_view text, const table &how) noexcept
+        : outcome(read), message_(read.message()), row_(read.rows()), column_(read.column())
+    {
+        if (has_place()) put_row(row_start, text, how);
+        put_words();
+    }
+
+    // That of a bad row of a text, in which its places count.
+    table_fault(const bad_row &bad, std::string_view text, const table &how) noexcept
+        : outcome(bad.status, bad.place), message_(jadvolni_status_text(bad.status)), row_(bad.row), column_(bad.column)
+    {
+        put_row(bad.start, text, how);
+        put_words();
+    }
+
+    // What hinders a row that starts at a place of a text, and where: at status::ok, that it has no room, or that
+    // reading has failed.
+    table_fault(const char *trouble, std::size_t place, std::size_t row_start, std::string_view text,
+                const table &how) noexcept
+        : outcome(JADVOLNI_OK, place), message_(trouble), is_trouble_(true)
+    {
+        put_row(row_start, text, how);
+        put_words();
+    }
+
+    // Whether nothing is wrong.
+    explicit operator bool() const noexcept { return !is_trouble_ && outcome::operator bool(); }
+
+    // The row of the fault, and its column: so many cells of the row are right. A header is no row.
+    std::size_t row() const noexcept { return row_; }
+    std::size_t column() const noexcept { return column_; }
+
+    // The line of its place: so many line feeds stand before that.
+    std::size_t line() const noexcept { return line_; }
+
+    // Where the row starts, and the place behind it and what ends it.
+    std::size_t row_start() const noexcept { return row_start_; }
+    std::size_t row_stop() const noexcept { return row_stop_; }
+
+    // The first 40 bytes of the cell as it stands in the text, with its quotes and blanks. It is empty too where a row
+    // has too few cells or lacks its return.
+    std::string_view text() const & noexcept { return {cell_, cell_size_}; }
+    std::string_view text() const && = delete;
+
+    // The name of the column, where it was told.
+    std::string_view name() const noexcept { return name_; }
+
+    // What is wrong, without its place: "invalid digit".
+    const char *message() const noexcept { return message_; }
+
+    // The fault in words: `line 5, "amount": "12,5x": invalid digit at byte 4 of the cell`. Of records it tells the
+    // number of the row. They live as long as this.
+    const char *what() const noexcept { return words_.c_str(); }
+
+    // The same fault, in a column of a name, which has to outlive it. An empty one is none.
+    table_fault named(std::string_view name) const noexcept
+    {
+        auto fault = *this;
+        fault.name_ = name;
+        fault.put_words();
+        return fault;
+    }
+
+    // This fault of a part of a text as one of the text, in which so many rows, line feeds and bytes stand before the
+    // part.
+    table_fault behind(std::size_t rows, std::size_t lines, std::size_t bytes) const noexcept
+    {
+        auto fault = *this;
+        if (!has_place() && !is_trouble_) return fault;
+        static_cast<outcome &>(fault) = outcome(static_cast<std::uint32_t>(status()), place() + bytes);
+        fault.row_ += rows, fault.line_ += lines, fault.row_start_ += bytes, fault.row_stop_ += bytes;
+        fault.put_words();
+        return fault;
+    }
+
+private:
+    bool has_place() const noexcept { return detail::has_place(status()); }
+
+    // Takes down what the text tells of the row that starts at a place of it.
+    void put_row(std::size_t start, std::string_view text, const table &how) noexcept
+    {
+        start = std::min(start, text.size());
+        const auto row = detail::first_row(text.substr(start), how);
+        line_ = line_column(text, place()).line;
+        row_start_ = start;
+        row_stop_ = start + row.size();
+        is_record_ = how.is_records != 0;
+        if (has_place() && status() != status::too_few_cells && status() != status::missing_return)
+            put_cell(detail::content_of_row(row, how), how);
+    }
+
+    // Takes down the cell that the fault is in, of a row without what ends it.
+    void put_cell(std::string_view row, const table &how) noexcept
+    {
+        detail::row_cells cells(row, how);
+        auto cell = cells.next();
+        for (std::size_t column = 0; column < column_ && cell; ++column) cell = cells.next();
+        if (!cell) cell = cells.left(); // what is too much behind cells of given widths
+        const auto start = row_start_ + static_cast<std::size_t>(cell->data() - row.data());
+        if (place() < start || place() > start + cell->size()) return;
+        has_cell_ = true;
+        place_in_cell_ = place() - start;
+        cell_size_ = cell->copy(cell_, sizeof cell_);
+        shown_size_ = detail::front_of(*cell, sizeof cell_).size();
+        is_cut_ = cell->size() > sizeof cell_;
+    }
+
+    // ---- in words
+
+    void put_words() noexcept
+    {
+        words_.clear();
+        if (*this || (!has_place() && !is_trouble_)) return put_words_without_place();
+        words_.put(is_record_ ? "row " : "line ");
+        words_.put((is_record_ ? row_ : line_) + 1);
+        if (has_cell_) {
+            words_.put(", ");
+            put_column();
+            words_.put(": ");
+            words_.put_quoted({cell_, shown_size_}, is_cut_);
+        }
+        words_.put(": ");
+        words_.put(message_);
+        if (status() == status::too_few_cells) {
+            words_.put(", none for ");
+            put_column();
+        } else if (has_cell_ && status() != status::too_many_cells) {
+            words_.put(" at byte ");
+            words_.put(place_in_cell_);
+            words_.put(" of the cell");
+        }
+    }
+
+    // What refuses a column names it, and so it is told from what refuses the table.
+    void put_words_without_place() noexcept
+    {
+        const std::string_view message = message_;
+        if (!*this && (status() != status::invalid_table || message.substr(0, 10) == "the column")) {
+            put_column();
+            words_.put(": ");
+        }
+        words_.put(message);
+    }
+
+    void put_column() noexcept
+    {
+        if (name_.empty()) {
+            words_.put("column ");
+            return words_.put(column_ + 1);
+        }
+        const auto front = detail::front_of(name_, sizeof cell_);
+        words_.put_quoted(front, front.size() < name_.size());
+    }
+
+    const char *message_;
+    std::string_view name_;
+    std::size_t row_ = 0, column_ = 0, line_ = 0, row_start_ = 0, row_stop_ = 0;
+    std::size_t cell_size_ = 0, shown_size_ = 0, place_in_cell_ = 0;
+    bool is_trouble_ = false, is_record_ = false, has_cell_ = false, is_cut_ = false;
+    char cell_[40] = {};
+    detail::short_text<640> words_;
+};
+
+} // namespace jadvolni
