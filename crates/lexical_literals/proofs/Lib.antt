@@ -8,3 +8,4 @@ pub mod LiteralRows
 pub mod TokenLists
 pub mod TokenRows
 pub mod TokenSteps
+pub mod TypedLiteralRows
