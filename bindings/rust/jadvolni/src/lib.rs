@@ -38,6 +38,7 @@ mod serde_integer;
 mod table;
 #[cfg(feature = "std")]
 mod table_reader;
+mod typed_literal;
 mod within;
 
 pub use column::{
@@ -58,6 +59,7 @@ pub use table::{
 };
 #[cfg(feature = "std")]
 pub use table_reader::{TableReadError, TableReader};
+pub use typed_literal::{parse_typed_literal, IntegerKind, Suffix, TypedLiteral};
 pub use within::{parse_within, parse_within_with_format, Excerpt, WithinError};
 
 use jadvolni_sys as sys;
