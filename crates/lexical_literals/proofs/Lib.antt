@@ -8,4 +8,5 @@ pub mod LiteralRows
 pub mod TokenLists
 pub mod TokenRows
 pub mod TokenSteps
+pub mod TypedFronts
 pub mod TypedLiteralRows
