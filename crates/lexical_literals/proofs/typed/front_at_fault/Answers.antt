@@ -1,5 +1,6 @@
 use Rattle.std.proofs.Common.{Err, ap, sym, ◌∙◌}
-use Rattle.lexical_literals.proofs.TypedFronts.{great_stops, great_valid, is_fault, other_stops}
+use Rattle.lexical_literals.proofs.NumberFaults.{is_fault}
+use Rattle.lexical_literals.proofs.NumberStops.{great_stops, great_valid, other_stops}
 use Rattle.lexical_literals.proofs.typed.front_at_fault.Goals as goal
 
 pub stop_of_number-requires : goal.stop_of_number-requires

@@ -2,7 +2,7 @@ use Rattle.std.proofs.Common.{false, sym}
 use Rattle.std.specs.Prelude.{pos}
 use Rattle.lexical_util.specs.Number.{integer_type}
 use Rattle.lexical_literals.proofs.LiteralFronts.{number_within}
-use Rattle.lexical_literals.proofs.TypedFronts.{not_none, ok_stops}
+use Rattle.lexical_literals.proofs.NumberStops.{not_none, ok_stops}
 use Rattle.lexical_literals.proofs.typed.front_of.Goals as goal
 
 pub returns-in-Ok-clause-front : goal.returns-in-Ok-clause-front

@@ -1,6 +1,6 @@
 use Rattle.std.proofs.Common.{ap, arith}
 use Rattle.lexical_parse_integer.specs.CursorView.{CursorView}
-use Rattle.lexical_literals.proofs.TypedFronts.{behind_a_prefix, behind_bare, fault_of_sign, reads_sign, sign_is_short, stays_bare}
+use Rattle.lexical_literals.proofs.NumberCursors.{behind_a_prefix, behind_bare, fault_of_sign, reads_sign, sign_is_short, stays_bare}
 use Rattle.lexical_literals.proofs.typed.read_head.Goals as goal
 
 pub returns-then-is_err-clause-fault : goal.returns-then-is_err-clause-fault

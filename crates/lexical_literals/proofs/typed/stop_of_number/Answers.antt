@@ -1,6 +1,6 @@
 use Rattle.std.proofs.Common.{ap, refl, ◌∙◌}
 use Rattle.lexical_parse_integer.specs.CursorView.{CursorView}
-use Rattle.lexical_literals.proofs.TypedFronts.{stands_behind, stops_at}
+use Rattle.lexical_literals.proofs.NumberCursors.{stands_behind, stops_at}
 use Rattle.lexical_literals.proofs.typed.stop_of_number.Goals as goal
 
 pub returns-clause-stop : goal.returns-clause-stop

@@ -1,6 +1,7 @@
 use Rattle.std.proofs.Common.{sym}
 use Rattle.lexical_literals.specs.TypedLiterals.{type_of}
-use Rattle.lexical_literals.proofs.TypedFronts.{none_is_there, read_by_type, refused_by_all, refused_by_type, some_is_there}
+use Rattle.lexical_literals.proofs.NumberStops.{none_is_there, some_is_there}
+use Rattle.lexical_literals.proofs.TypedFronts.{read_by_type, refused_by_all, refused_by_type}
 use Rattle.lexical_literals.proofs.typed.value_as.Goals.{in-Some+else-is_of_kind, in_default}
 use Rattle.lexical_literals.proofs.typed.value_as.Goals as goal
 

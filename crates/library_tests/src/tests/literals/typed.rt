@@ -55,14 +55,34 @@ fn literals_with_types(rt: HostRuntime) {
 #[test]
 fn faults_of_literals_with_types(rt: HostRuntime) {
     let great = b"340282366920938463463374607431768211456u8";
-    answers(&rt, typed(b"300u8"), Err(LiteralError::Number(Error::Overflow(2))));
-    answers(&rt, typed(great), Err(LiteralError::Number(Error::Overflow(2))));
-    answers(&rt, typed(b"0b102"), Err(LiteralError::Number(Error::InvalidDigit(4))));
+    answers(
+        &rt,
+        typed(b"300u8"),
+        Err(LiteralError::Number(Error::Overflow(2))),
+    );
+    answers(
+        &rt,
+        typed(great),
+        Err(LiteralError::Number(Error::Overflow(2))),
+    );
+    answers(
+        &rt,
+        typed(b"0b102"),
+        Err(LiteralError::Number(Error::InvalidDigit(4))),
+    );
     answers(&rt, typed(b"12abc"), Err(LiteralError::UnknownSuffix(2)));
-    answers(&rt, typed(b"-1"), Err(LiteralError::Number(Error::Empty(0))));
+    answers(
+        &rt,
+        typed(b"-1"),
+        Err(LiteralError::Number(Error::Empty(0))),
+    );
     let radix = NumberFormatBuilder::from_radix(37);
     let refused = typed_literal_in_front(b"1", &radix, &SUFFIXES);
-    answers(&rt, refused, Err(LiteralError::Number(Error::InvalidMantissaRadix)));
+    answers(
+        &rt,
+        refused,
+        Err(LiteralError::Number(Error::InvalidMantissaRadix)),
+    );
 }
 
 // An entry of a table of the caller's own: a suffix, and what the caller calls it.
