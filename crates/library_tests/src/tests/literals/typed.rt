@@ -106,11 +106,17 @@ impl SuffixEntry for Named {
 const NAMED: [Named; 2] = [
     Named {
         name: "none",
-        suffix: SUFFIXES[2],
+        suffix: Suffix {
+            text: b"",
+            kind: IntegerKind::I32,
+        },
     },
     Named {
         name: "byte",
-        suffix: SUFFIXES[0],
+        suffix: Suffix {
+            text: b"u8",
+            kind: IntegerKind::U8,
+        },
     },
 ];
 
