@@ -35,8 +35,9 @@
  *
  *     jadvolni_parse_u64_column(text, len, separator, &format, values, capacity, &count)
  *
- * jadvolni_parse_literal reads a literal with its suffix, as "0xFFull" or "1_000i64". And amounts of
- * money, as "-1.234,50", are read by two calls of each type:
+ * jadvolni_parse_literal reads a literal with its suffix, as "0xFFull" or "1_000i64", and
+ * jadvolni_parse_typed_literal judges it as the type that its suffix names. And amounts of money, as
+ * "-1.234,50", are read by two calls of each type:
  *
  *     jadvolni_parse_i64_fixed(text, len, &fixed, &value)
  *     jadvolni_parse_i64_fixed_front(text, len, &fixed, &value)
@@ -184,6 +185,13 @@ typedef enum jadvolni_status {
 
     /* Fixed-point numbers have more than 38 places. */
     JADVOLNI_INVALID_PLACES = 22,
+
+    /* The suffix of a literal is in no entry of the table. The place is where the suffix begins: 2 in
+     * "12abc", and in "12" where no entry has the empty suffix. */
+    JADVOLNI_UNKNOWN_SUFFIX = 23,
+
+    /* An entry of a table of suffixes names no type, or its reserved bytes aren't 0. The place is 0. */
+    JADVOLNI_INVALID_SUFFIX_TABLE = 24,
 
     /* A reserved byte or bit of the format isn't 0: it was written for a later version of the
      * library, or it was never set. It comes before the rules of formats. */
@@ -577,6 +585,75 @@ JADVOLNI_SAME_BITS_(ullong, unsigned long long, uint64_t, jadvolni_parse_u64)
 jadvolni_result jadvolni_parse_literal(const char *text, size_t len, const jadvolni_format *format,
                                        jadvolni_uint128 *value, size_t *suffix)
     JADVOLNI_CHECKED_(3, 4, 5) JADVOLNI_TEXT_ JADVOLNI_WRITES_(4) JADVOLNI_WRITES_(5);
+
+/* The types that a suffix may name. */
+typedef enum jadvolni_type {
+    JADVOLNI_TYPE_U8 = 1,
+    JADVOLNI_TYPE_U16 = 2,
+    JADVOLNI_TYPE_U32 = 3,
+    JADVOLNI_TYPE_U64 = 4,
+    JADVOLNI_TYPE_U128 = 5,
+    JADVOLNI_TYPE_USIZE = 6,
+    JADVOLNI_TYPE_I8 = 7,
+    JADVOLNI_TYPE_I16 = 8,
+    JADVOLNI_TYPE_I32 = 9,
+    JADVOLNI_TYPE_I64 = 10,
+    JADVOLNI_TYPE_I128 = 11,
+    JADVOLNI_TYPE_ISIZE = 12
+} jadvolni_type;
+
+/* An entry of a table of suffixes, as JADVOLNI_SUFFIX makes it of a string constant. */
+typedef struct jadvolni_suffix {
+    /* The suffix, byte for byte: a language that takes "u" and "U" has an entry for each. The empty one
+     * names the type of a literal without a suffix, and its `text` may be NULL. */
+    const char *text;
+    size_t len;
+
+    /* The jadvolni_type that it names. */
+    uint32_t type;
+
+    /* 0: it is for a field of later versions. */
+    uint32_t reserved;
+} jadvolni_suffix;
+
+#define JADVOLNI_SUFFIX(text, type) {"" text, sizeof("" text) - 1, type, 0}
+
+/*
+ * The integer literal that a text begins with, as jadvolni_parse_literal reads it, with the type that
+ * its suffix names:
+ *
+ *     static const jadvolni_suffix suffixes[] = {
+ *         JADVOLNI_SUFFIX("", JADVOLNI_TYPE_I32),
+ *         JADVOLNI_SUFFIX("u8", JADVOLNI_TYPE_U8),
+ *         JADVOLNI_SUFFIX("i64", JADVOLNI_TYPE_I64),
+ *     };
+ *     size_t entry;
+ *     jadvolni_result r = jadvolni_parse_typed_literal("1_000i64;", 9, &rust, suffixes, 3, &value,
+ *                                                      &suffix, &entry);
+ *
+ * gives 1000, JADVOLNI_OK at 8, 5 as the place at which the suffix begins, and 2 as the entry that has it.
+ * Where two entries have it, that is the first. The first of these faults that applies is answered:
+ *
+ *     JADVOLNI_UNKNOWN_FIELD, JADVOLNI_INVALID_SUFFIX_TABLE  of the format and of the table, whatever
+ *                              the text is.
+ *     those of jadvolni_parse_literal, where no number stands in front.
+ *     JADVOLNI_INVALID_DIGIT   where a digit 0 to 9 stands directly behind the number: 4 in "0b102".
+ *     JADVOLNI_UNKNOWN_SUFFIX  where the suffix begins: 2 in "12abc", and 1 in "1e5".
+ *     JADVOLNI_OVERFLOW        at the digit with which the number leaves its type: 2 in "300u8".
+ *
+ * A LITERAL HAS NO MINUS: "-128i8" is JADVOLNI_EMPTY at 0, and "128i8" JADVOLNI_OVERFLOW at 2. Where a
+ * minus before a literal widens its range, let the entry name the unsigned type, and judge the range
+ * where the sign is known.
+ *
+ * At a fault `*value`, `*suffix` and `*entry` are as they were. `suffixes` points to `suffix_count`
+ * entries, and may be NULL where that is 0. None of the three lies in the text, in the format, in the
+ * table or in another, and none is NULL.
+ */
+jadvolni_result jadvolni_parse_typed_literal(const char *text, size_t len, const jadvolni_format *format,
+                                             const jadvolni_suffix *suffixes, size_t suffix_count,
+                                             jadvolni_uint128 *value, size_t *suffix, size_t *entry)
+    JADVOLNI_CHECKED_(3, 6, 7, 8) JADVOLNI_TEXT_ JADVOLNI_READS_(4, 5) JADVOLNI_WRITES_(6)
+    JADVOLNI_WRITES_(7) JADVOLNI_WRITES_(8);
 
 /* ---- fixed-point numbers ---- */
 
@@ -1121,6 +1198,8 @@ static inline const char *jadvolni_status_name(uint32_t status)
     case JADVOLNI_INVALID_FIXED_AFFIX: return "InvalidFixedAffix";
     case JADVOLNI_INVALID_POINT: return "InvalidPoint";
     case JADVOLNI_INVALID_PLACES: return "InvalidPlaces";
+    case JADVOLNI_UNKNOWN_SUFFIX: return "UnknownSuffix";
+    case JADVOLNI_INVALID_SUFFIX_TABLE: return "InvalidSuffixTable";
     case JADVOLNI_UNKNOWN_FIELD: return "UnknownField";
     default: return "Unknown";
     }
@@ -1170,6 +1249,10 @@ static inline const char *jadvolni_status_text(uint32_t status)
                "part";
     case JADVOLNI_INVALID_PLACES:
         return "fixed-point numbers have to have at most 38 places";
+    case JADVOLNI_UNKNOWN_SUFFIX: return "unknown suffix";
+    case JADVOLNI_INVALID_SUFFIX_TABLE:
+        return "each suffix of a table has to name a type, and its reserved bytes have to be "
+               "0";
     case JADVOLNI_UNKNOWN_FIELD:
         return "the reserved bytes and bits of the format have to be 0";
     default: return "a status that only a later library has";
@@ -1259,6 +1342,8 @@ JADVOLNI_ASSERT_(literal_prefixes_is_at_16, offsetof(jadvolni_format, literal_pr
 JADVOLNI_ASSERT_(fixed_has_48_bytes, sizeof(jadvolni_fixed) == 48);
 JADVOLNI_ASSERT_(point_is_at_32, offsetof(jadvolni_fixed, point) == 32);
 JADVOLNI_ASSERT_(position_has_16_bytes, sizeof(jadvolni_position) == 16);
+JADVOLNI_ASSERT_(suffix_has_24_bytes, sizeof(jadvolni_suffix) == 24);
+JADVOLNI_ASSERT_(suffix_type_is_at_16, offsetof(jadvolni_suffix, type) == 16);
 JADVOLNI_ASSERT_(table_has_48_bytes, sizeof(jadvolni_table) == 48);
 JADVOLNI_ASSERT_(table_column_has_208_bytes, sizeof(jadvolni_table_column) == 208);
 JADVOLNI_ASSERT_(missing_is_at_16, offsetof(jadvolni_table, missing) == 16);

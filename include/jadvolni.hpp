@@ -69,6 +69,8 @@ enum class status : std::uint32_t {
     invalid_fixed_affix = JADVOLNI_INVALID_FIXED_AFFIX,
     invalid_point = JADVOLNI_INVALID_POINT,
     invalid_places = JADVOLNI_INVALID_PLACES,
+    unknown_suffix = JADVOLNI_UNKNOWN_SUFFIX,
+    invalid_suffix_table = JADVOLNI_INVALID_SUFFIX_TABLE,
     unknown_field = JADVOLNI_UNKNOWN_FIELD
 };
 
@@ -284,6 +286,23 @@ result<T> called(Call *call, std::string_view text, const Under *...under) noexc
 template <class T>
 using calls_as = calls<typename kept_as<T>::type>;
 
+// The code of the type of the calls in which a T is kept.
+template <class T>
+constexpr std::uint32_t type_code() noexcept
+{
+    using kept = typename kept_as<T>::type;
+    if constexpr (std::is_same_v<kept, jadvolni_uint128>) return JADVOLNI_TYPE_U128;
+    else if constexpr (std::is_same_v<kept, jadvolni_int128>) return JADVOLNI_TYPE_I128;
+    else if constexpr (std::is_same_v<kept, std::uint8_t>) return JADVOLNI_TYPE_U8;
+    else if constexpr (std::is_same_v<kept, std::uint16_t>) return JADVOLNI_TYPE_U16;
+    else if constexpr (std::is_same_v<kept, std::uint32_t>) return JADVOLNI_TYPE_U32;
+    else if constexpr (std::is_same_v<kept, std::uint64_t>) return JADVOLNI_TYPE_U64;
+    else if constexpr (std::is_same_v<kept, std::int8_t>) return JADVOLNI_TYPE_I8;
+    else if constexpr (std::is_same_v<kept, std::int16_t>) return JADVOLNI_TYPE_I16;
+    else if constexpr (std::is_same_v<kept, std::int32_t>) return JADVOLNI_TYPE_I32;
+    else return JADVOLNI_TYPE_I64;
+}
+
 } // namespace detail
 
 // The whole text as a T.
@@ -367,6 +386,42 @@ struct literal_parts {
     literal_parts parts{};
     std::size_t suffix = 0;
     auto answer = jadvolni_parse_literal(text.data(), text.size(), &under, &parts.value, &suffix);
+    if (answer.status == JADVOLNI_OK)
+        parts.suffix = std::string_view(text.data() + suffix, answer.place - suffix);
+    return {parts, answer};
+}
+
+// An entry of a table of suffixes: the suffix and the type that it names, which suffix_of makes.
+using suffix = jadvolni_suffix;
+
+// The entry of a suffix that names the integer type T: suffix_of<std::uint8_t>("u8"). It keeps the
+// suffix as a pointer, so that the bytes have to outlive it, as those of a string constant do.
+template <class T>
+constexpr suffix suffix_of(std::string_view text) noexcept
+{
+    return {text.data(), text.size(), detail::type_code<T>(), 0};
+}
+
+// The number of a literal, its suffix, which is a part of the text, and the index of the table's
+// first entry that has it.
+struct typed_literal_parts {
+    jadvolni_uint128 value;
+    std::string_view suffix;
+    std::size_t entry;
+};
+
+// The literal that the text begins with, judged as the type that its suffix names in a table, which
+// is an array or a container of entries: "300u8" is status::overflow at 2, "0b102"
+// status::invalid_digit at 4, and "12abc" status::unknown_suffix at 2. A literal has no minus.
+template <class Table>
+[[nodiscard]] result<typed_literal_parts> parse_typed_literal(std::string_view text, const format &under,
+                                                              const Table &suffixes) noexcept
+{
+    typed_literal_parts parts{};
+    std::size_t suffix = 0;
+    auto answer = jadvolni_parse_typed_literal(text.data(), text.size(), &under, std::data(suffixes),
+                                               std::size(suffixes), &parts.value, &suffix,
+                                               &parts.entry);
     if (answer.status == JADVOLNI_OK)
         parts.suffix = std::string_view(text.data() + suffix, answer.place - suffix);
     return {parts, answer};

@@ -47,7 +47,7 @@ OF_RUST = {"uint8_t": "u8", "uint32_t": "u32", "uint64_t": "u64", "int64_t": "i6
            "size_t": "usize", "jadvolni_format": "jadvolni_format"}
 COLUMN_TYPES = [f"{sign}{size}" for sign in "ui" for size in (8, 16, 32, 64)]
 CALLS = sorted(["jadvolni_version", "jadvolni_format_error", "jadvolni_field_start",
-                "jadvolni_parse_literal", "jadvolni_parse_table",
+                "jadvolni_parse_literal", "jadvolni_parse_typed_literal", "jadvolni_parse_table",
                 "jadvolni_parse_table_skipping", "jadvolni_row_place", "jadvolni_fixed_error",
                 "jadvolni_line_column", "jadvolni_fold_quotes"]
                + [f"jadvolni_parse_{name}_fixed{form}" for name, form in product(TYPES, FIXED)]

@@ -17,7 +17,8 @@ STATUSES = os.path.join("bindings", "errors.txt")
 STANDARD = {"mantissa_radix": 10, "required_mantissa_digits": True}
 # From which status on Rust's errors have a place (or a number), or have none.
 PLACES = {"InvalidMantissaRadix": "", "TooFewCells": "(_)", "InvalidTable": "",
-          "MisplacedQuote": "(_)", "InvalidFixedRadix": "", "Unknown": "(_)"}
+          "MisplacedQuote": "(_)", "InvalidFixedRadix": "", "UnknownSuffix": "(_)",
+          "InvalidSuffixTable": "", "Unknown": "(_)"}
 # The bytes of C's struct but that of nul_is_punctuation.
 ROOM = 31
 

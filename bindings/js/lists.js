@@ -45,6 +45,8 @@ export const STATUSES = [
   ["InvalidFixedAffix", "fixed-point numbers have no prefix, no suffix, no literal prefixes and no octal zeros"],
   ["InvalidPoint", "the point has to be no digit, no sign, and not the separator of the integer part"],
   ["InvalidPlaces", "fixed-point numbers have to have at most 38 places"],
+  ["UnknownSuffix", "unknown suffix"],
+  ["InvalidSuffixTable", "each suffix of a table has to name a type, and its reserved bytes have to be 0"],
 ];
 
 export const LANGUAGES = [

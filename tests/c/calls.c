@@ -374,6 +374,98 @@ static void literals(void)
     EXPECT_LITERAL(rust, "1u8", JADVOLNI_UNKNOWN_FIELD, 77, 77, 0);
 }
 
+/* Suffixes of C and of Rust, each with its type. The last entry is never reached. */
+static const jadvolni_suffix suffixes[] = {
+    JADVOLNI_SUFFIX("", JADVOLNI_TYPE_I32),      JADVOLNI_SUFFIX("u8", JADVOLNI_TYPE_U8),
+    JADVOLNI_SUFFIX("i8", JADVOLNI_TYPE_I8),     JADVOLNI_SUFFIX("i16", JADVOLNI_TYPE_I16),
+    JADVOLNI_SUFFIX("u16", JADVOLNI_TYPE_U16),   JADVOLNI_SUFFIX("u", JADVOLNI_TYPE_U32),
+    JADVOLNI_SUFFIX("i64", JADVOLNI_TYPE_I64),   JADVOLNI_SUFFIX("ull", JADVOLNI_TYPE_U64),
+    JADVOLNI_SUFFIX("i128", JADVOLNI_TYPE_I128), JADVOLNI_SUFFIX("u128", JADVOLNI_TYPE_U128),
+    JADVOLNI_SUFFIX("z", JADVOLNI_TYPE_ISIZE),   JADVOLNI_SUFFIX("uz", JADVOLNI_TYPE_USIZE),
+    JADVOLNI_SUFFIX("u8", JADVOLNI_TYPE_U64),
+};
+#define SUFFIX_COUNT (sizeof suffixes / sizeof *suffixes)
+
+/* A literal with its type: its value, its entry, and where its number and its suffix end; or its fault. */
+#define EXPECT_TYPED(format, text, wanted_status, wanted_low, wanted_entry, wanted_suffix, wanted_place) \
+    do {                                                                                                 \
+        jadvolni_uint128 value = {77, 77};                                                               \
+        size_t suffix = 77, entry = 77, len = sizeof(text) - 1;                                          \
+        char *bytes = exactly(text, len);                                                                \
+        jadvolni_result r = jadvolni_parse_typed_literal(bytes, len, &(format), suffixes, SUFFIX_COUNT,  \
+                                                         &value, &suffix, &entry);                       \
+        free(bytes);                                                                                     \
+        CHECK(r.status == (wanted_status) && r.place == (wanted_place));                                 \
+        CHECK(value.low == (wanted_low) && value.high == (r.status ? 77u : 0u));                          \
+        CHECK(entry == (wanted_entry) && suffix == (wanted_suffix));                                     \
+    } while (0)
+
+static void typed_literals(void)
+{
+    jadvolni_format c = JADVOLNI_FORMAT_C, rust = JADVOLNI_FORMAT_RUST;
+    EXPECT_TYPED(rust, "7", JADVOLNI_OK, 7, 0, 1, 1);
+    EXPECT_TYPED(rust, "255u8;", JADVOLNI_OK, 255, 1, 3, 5);
+    EXPECT_TYPED(rust, "127i8", JADVOLNI_OK, 127, 2, 3, 5);
+    EXPECT_TYPED(rust, "0x7FFFi16", JADVOLNI_OK, 32767, 3, 6, 9);
+    EXPECT_TYPED(rust, "65_535u16", JADVOLNI_OK, 65535, 4, 6, 9);
+    EXPECT_TYPED(c, "4294967295u", JADVOLNI_OK, 4294967295u, 5, 10, 11);
+    EXPECT_TYPED(rust, "9_223_372_036_854_775_807i64", JADVOLNI_OK, INT64_MAX, 6, 25, 28);
+    EXPECT_TYPED(c, "0xFFFFFFFFFFFFFFFFull", JADVOLNI_OK, UINT64_MAX, 7, 18, 21);
+    EXPECT_TYPED(rust, "1i128", JADVOLNI_OK, 1, 8, 1, 5);
+    EXPECT_TYPED(rust, "1u128", JADVOLNI_OK, 1, 9, 1, 5);
+    EXPECT_TYPED(c, "0777z", JADVOLNI_OK, 511, 10, 4, 5);
+    EXPECT_TYPED(c, "18446744073709551615uz", JADVOLNI_OK, UINT64_MAX, 11, 20, 22);
+    EXPECT_TYPED(rust, "1.5", JADVOLNI_OK, 1, 0, 1, 1);
+    EXPECT_TYPED(rust, "2147483648", JADVOLNI_OVERFLOW, 77, 77, 77, 9);
+    EXPECT_TYPED(rust, "300u8", JADVOLNI_OVERFLOW, 77, 77, 77, 2);
+    EXPECT_TYPED(rust, "128i8", JADVOLNI_OVERFLOW, 77, 77, 77, 2);
+    EXPECT_TYPED(rust, "0x1_0000u16", JADVOLNI_OVERFLOW, 77, 77, 77, 7);
+    EXPECT_TYPED(c, "9223372036854775808z", JADVOLNI_OVERFLOW, 77, 77, 77, 18);
+    EXPECT_TYPED(c, "18446744073709551616uz", JADVOLNI_OVERFLOW, 77, 77, 77, 19);
+    EXPECT_TYPED(rust, "170141183460469231731687303715884105728i128", JADVOLNI_OVERFLOW, 77, 77, 77, 38);
+    EXPECT_TYPED(rust, "340282366920938463463374607431768211456u8", JADVOLNI_OVERFLOW, 77, 77, 77, 2);
+    EXPECT_TYPED(rust, "0x1_0000_0000_0000_0000_0000_0000_0000_0000_u128", JADVOLNI_OVERFLOW, 77, 77, 77, 42);
+    EXPECT_TYPED(c, "0400000000000000000000000000000000000000000z", JADVOLNI_OVERFLOW, 77, 77, 77, 22);
+    EXPECT_TYPED(rust, "340282366920938463463374607431768211456x", JADVOLNI_UNKNOWN_SUFFIX, 77, 77, 77, 39);
+    EXPECT_TYPED(c, "0400000000000000000000000000000000000000000008", JADVOLNI_INVALID_DIGIT, 77, 77, 77, 45);
+    EXPECT_TYPED(rust, "0b102", JADVOLNI_INVALID_DIGIT, 77, 77, 77, 4);
+    EXPECT_TYPED(c, "08", JADVOLNI_INVALID_DIGIT, 77, 77, 77, 1);
+    EXPECT_TYPED(rust, "12abc", JADVOLNI_UNKNOWN_SUFFIX, 77, 77, 77, 2);
+    EXPECT_TYPED(rust, "1e5", JADVOLNI_UNKNOWN_SUFFIX, 77, 77, 77, 1);
+    EXPECT_TYPED(rust, "1U8", JADVOLNI_UNKNOWN_SUFFIX, 77, 77, 77, 1);
+    EXPECT_TYPED(rust, "1u8\0", JADVOLNI_OK, 1, 1, 1, 3);
+    EXPECT_TYPED(rust, "u8", JADVOLNI_EMPTY, 77, 77, 77, 0);
+    EXPECT_TYPED(rust, "0xu8", JADVOLNI_EMPTY, 77, 77, 77, 2);
+    EXPECT_TYPED(rust, "-1i8", JADVOLNI_EMPTY, 77, 77, 77, 0);
+    rust.mantissa_radix = 37;
+    EXPECT_TYPED(rust, "1u8", JADVOLNI_INVALID_MANTISSA_RADIX, 77, 77, 77, 0);
+    rust.reserved[0] = 1;
+    EXPECT_TYPED(rust, "1u8", JADVOLNI_UNKNOWN_FIELD, 77, 77, 77, 0);
+}
+
+/* A table that has no entries, and those of which an entry is wrong, whatever the text is. */
+static void tables_of_suffixes(void)
+{
+    static const uint32_t wrong[][2] = {{0, 0}, {13, 0}, {UINT32_MAX, 0}, {JADVOLNI_TYPE_U8, 1}};
+    jadvolni_format format = JADVOLNI_FORMAT_C;
+    jadvolni_suffix table[] = {{NULL, 0, JADVOLNI_TYPE_U8, 0}, JADVOLNI_SUFFIX("u", JADVOLNI_TYPE_U8)};
+    jadvolni_uint128 value = {77, 77};
+    size_t suffix = 77, entry = 77, k;
+    jadvolni_result r = jadvolni_parse_typed_literal("12", 2, &format, NULL, 0, &value, &suffix, &entry);
+    CHECK(r.status == JADVOLNI_UNKNOWN_SUFFIX && r.place == 2);
+    for (k = 0; k < sizeof wrong / sizeof *wrong; k++) {
+        table[1].type = wrong[k][0], table[1].reserved = wrong[k][1];
+        r = jadvolni_parse_typed_literal("12", 2, &format, table, 2, &value, &suffix, &entry);
+        CHECK(r.status == JADVOLNI_INVALID_SUFFIX_TABLE && r.place == 0);
+    }
+    CHECK(value.low == 77 && value.high == 77 && suffix == 77 && entry == 77);
+    r = jadvolni_parse_typed_literal("12", 2, &format, table, 1, &value, &suffix, &entry);
+    CHECK(r.status == JADVOLNI_OK && r.place == 2 && value.low == 12 && suffix == 2 && entry == 0);
+    format.reserved[0] = 1, table[0].type = 0;
+    r = jadvolni_parse_typed_literal("12", 2, &format, table, 1, &value, &suffix, &entry);
+    CHECK(r.status == JADVOLNI_UNKNOWN_FIELD && r.place == 0);
+}
+
 /* The version is one, however it is written. */
 static void version(void)
 {
@@ -400,6 +492,8 @@ int main(void)
     null_texts();
     by_type();
     literals();
+    typed_literals();
+    tables_of_suffixes();
     names();
     return checked();
 }

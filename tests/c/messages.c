@@ -6,7 +6,7 @@
 int main(void)
 {
     for (uint32_t status = 0; status <= JADVOLNI_UNKNOWN_FIELD + 1; status++)
-        if (status <= JADVOLNI_INVALID_PLACES || status >= JADVOLNI_UNKNOWN_FIELD)
+        if (status <= JADVOLNI_INVALID_SUFFIX_TABLE || status >= JADVOLNI_UNKNOWN_FIELD)
             printf("%s: %s\n", jadvolni_status_name(status), jadvolni_status_text(status));
     return 0;
 }

@@ -38,7 +38,9 @@ uint64_t misuse(void)
     jadvolni_table table = {.separator = ','};
     jadvolni_table_column column = {.format = JADVOLNI_FORMAT_STANDARD, .u64 = {values, 2}};
     jadvolni_bad_row bad[2] = {{0}, {0}};
-    (void)bad, (void)narrow, (void)count, (void)values, (void)text, (void)wide, (void)table, (void)column;
+    jadvolni_suffix suffixes[1] = {JADVOLNI_SUFFIX("u8", JADVOLNI_TYPE_U8)};
+    size_t entry = 0;
+    (void)suffixes, (void)entry, (void)bad, (void)narrow, (void)count, (void)values, (void)text, (void)wide, (void)table, (void)column;
 #if MISUSE == 0
     return used(jadvolni_parse_u64(text, 4, &value), value)
         + used(jadvolni_parse_u64_front_with_format(NULL, 0, FORMAT, &value), value)
@@ -46,6 +48,8 @@ uint64_t misuse(void)
         + used(jadvolni_parse_u64_column(text, 4, ',', FORMAT, NULL, 0, &count), count)
         + used(jadvolni_parse_u64_column_part(text, 4, true, ',', FORMAT, values, 2, &count), values[0])
         + used(jadvolni_parse_literal(text, 4, FORMAT, &wide, &count), wide.low)
+        + used(jadvolni_parse_typed_literal(text, 4, FORMAT, suffixes, 1, &wide, &count, &entry), wide.low)
+        + used(jadvolni_parse_typed_literal(NULL, 0, FORMAT, NULL, 0, &wide, &count, &entry), wide.low)
         + jadvolni_field_start(text, 4, ',') + jadvolni_field_start(NULL, 0, ',')
         + used_table(jadvolni_parse_table(text, 4, true, &table, 2, &column, 1))
         + used_table(jadvolni_parse_table(NULL, 0, true, &table, 2, NULL, 0))
@@ -123,5 +127,16 @@ uint64_t misuse(void)
     return used_skipping(jadvolni_parse_table_skipping(text, 4, true, &table, 2, &column, 1, NULL, 2));
 #elif MISUSE == 31 /* gcc: stringop-overread, clang: user-defined-warnings */
     return used_skipping(jadvolni_parse_table_skipping(text, 40, true, &table, 2, &column, 1, bad, 2));
+#elif MISUSE == 32 /* both: unused-result */
+    jadvolni_parse_typed_literal(text, 4, FORMAT, suffixes, 1, &wide, &count, &entry);
+    return wide.low;
+#elif MISUSE == 33 /* both: nonnull */
+    return used(jadvolni_parse_typed_literal(text, 4, FORMAT, suffixes, 1, &wide, &count, NULL), wide.low);
+#elif MISUSE == 34 /* gcc: stringop-overread */
+    return used(jadvolni_parse_typed_literal(text, 4, FORMAT, suffixes, 2, &wide, &count, &entry), wide.low);
+#elif MISUSE == 35 /* gcc: nonnull */
+    return used(jadvolni_parse_typed_literal(text, 4, FORMAT, NULL, 1, &wide, &count, &entry), wide.low);
+#elif MISUSE == 36 /* gcc: stringop-overread, clang: user-defined-warnings */
+    return used(jadvolni_parse_typed_literal(text, 40, FORMAT, suffixes, 1, &wide, &count, &entry), wide.low);
 #endif
 }

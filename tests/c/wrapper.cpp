@@ -313,6 +313,39 @@ static void literals()
     CHECK(jadvolni::parse_literal("0xu", jadvolni::formats::c).status() == status::empty);
 }
 
+static void typed_literals()
+{
+    static constexpr jadvolni::suffix table[] = {
+        jadvolni::suffix_of<int>(""), jadvolni::suffix_of<unsigned char>("u8"), jadvolni::suffix_of<long long>("ll"),
+        jadvolni::suffix_of<unsigned short>("u16"), jadvolni::suffix_of<std::uint64_t>("ull")};
+    static_assert(table[0].type == JADVOLNI_TYPE_I32 && table[1].type == JADVOLNI_TYPE_U8);
+    static_assert(table[2].type == JADVOLNI_TYPE_I64 && table[3].type == JADVOLNI_TYPE_U16);
+    static_assert(jadvolni::suffix_of<std::int8_t>("i8").type == JADVOLNI_TYPE_I8);
+    static_assert(jadvolni::suffix_of<std::int16_t>("i16").type == JADVOLNI_TYPE_I16);
+    static_assert(jadvolni::suffix_of<std::uint32_t>("u").type == JADVOLNI_TYPE_U32);
+    static_assert(jadvolni::suffix_of<std::uint64_t>("ull").type == JADVOLNI_TYPE_U64);
+    static_assert(jadvolni::suffix_of<jadvolni_native_uint128>("u128").type == JADVOLNI_TYPE_U128);
+    static_assert(jadvolni::suffix_of<jadvolni_native_int128>("i128").type == JADVOLNI_TYPE_I128);
+    auto read = jadvolni::parse_typed_literal("0xFFull;", jadvolni::formats::c, table);
+    CHECK(read && read->value.low == 255 && read->value.high == 0 && read->suffix == "ull" && read->entry == 4);
+    CHECK(read.place() == 7);
+    const std::vector<jadvolni::suffix> entries(std::begin(table), std::end(table));
+    auto bare = jadvolni::parse_typed_literal("12 ", jadvolni::formats::c, entries);
+    CHECK(bare && bare->value.low == 12 && bare->suffix.empty() && bare->entry == 0 && bare.place() == 2);
+    auto refused = [](std::string_view text, status wanted, std::size_t place) {
+        auto answer = jadvolni::parse_typed_literal(text, jadvolni::formats::rust, table);
+        return !answer && answer.status() == wanted && answer.place() == place;
+    };
+    CHECK(refused("300u8", status::overflow, 2));
+    CHECK(refused("2147483648", status::overflow, 9));
+    CHECK(refused("0b102", status::invalid_digit, 4));
+    CHECK(refused("12abc", status::unknown_suffix, 2));
+    CHECK(refused("-1", status::empty, 0));
+    const jadvolni::suffix untyped[] = {{}};
+    auto none = jadvolni::parse_typed_literal("1", jadvolni::formats::c, untyped);
+    CHECK(!none && none.status() == status::invalid_suffix_table && none.place() == 0);
+}
+
 int main()
 {
     faults_of_texts();
@@ -324,6 +357,7 @@ int main()
     fronts_without_a_digit();
     wrong_bases();
     literals();
+    typed_literals();
     columns();
     columns_in_parts();
     columns_beside_from_chars();

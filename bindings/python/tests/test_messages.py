@@ -36,6 +36,8 @@ OF_FORMATS = {
 OF_TABLES = {"TooFewCells", "TooManyCells", "MissingReturn", "InvalidTable", "MisplacedQuote"}
 # Those of fixed-point numbers, which Python has no call for.
 OF_FIXED = {"InvalidFixedRadix", "InvalidFixedAffix", "InvalidPoint", "InvalidPlaces"}
+# Those of literals with types, which it has no call for either.
+OF_TYPED_LITERALS = {"UnknownSuffix", "InvalidSuffixTable"}
 
 
 def listed():
@@ -49,7 +51,8 @@ class Messages(unittest.TestCase):
 
     def test_each_kind_is_tried(self):
         tried = {*OF_TEXTS, *OF_FORMATS, "UnknownField"}
-        self.assertEqual(tried, {*listed()} - {"Ok", "Unknown"} - OF_TABLES - OF_FIXED)
+        untried = {"Ok", "Unknown", *OF_TABLES, *OF_FIXED, *OF_TYPED_LITERALS}
+        self.assertEqual(tried, {*listed()} - untried)
 
     def test_faults_of_texts(self):
         for kind, (place, text, format) in OF_TEXTS.items():

@@ -5,3 +5,4 @@ pub mod Kinds
 pub mod Literals
 pub mod TokenCallers
 pub mod Tokens
+pub mod TypedLiterals

@@ -17,6 +17,8 @@ mod decimal;
 mod groups;
 mod lanes;
 mod literal;
+mod suffixes;
+mod typed;
 
 ghost use Rattle.std.specs.Prelude.{◌≡◌, ◌+◌, ◌<◌, ◌≤◌, ◌^◌, List, All, IfOk, IsNone, IsTrue, Ok, false, is_some, length, pos, slice_index, true};
 ghost use Rattle.std.specs.Iterator.{YieldsFirstBy, item_count};
@@ -37,6 +39,8 @@ use lexical_parse_integer::{Error, NumberFormat, NumberFormatBuilder, Result, op
 use lexical_util::digit::char_is_digit;
 pub use literal::{Literal, literal_in_front};
 use std::marker::Model;
+pub use suffixes::{IntegerKind, Suffix, SuffixEntry};
+pub use typed::{LiteralError, TypedLiteral, typed_literal_in_front};
 
 /// What a token is.
 ///

@@ -176,6 +176,30 @@ pub struct jadvolni_position {
     pub column: usize,
 }
 
+/// An entry of a table of suffixes. The type is one of those below, and the reserved bytes have to be 0.
+#[repr(C)]
+#[derive(Debug, Copy, Clone, PartialEq, Eq)]
+pub struct jadvolni_suffix {
+    pub text: *const c_char,
+    pub len: usize,
+    pub r#type: u32,
+    pub reserved: u32,
+}
+
+/// The types that a suffix may name.
+pub const JADVOLNI_TYPE_U8: u32 = 1;
+pub const JADVOLNI_TYPE_U16: u32 = 2;
+pub const JADVOLNI_TYPE_U32: u32 = 3;
+pub const JADVOLNI_TYPE_U64: u32 = 4;
+pub const JADVOLNI_TYPE_U128: u32 = 5;
+pub const JADVOLNI_TYPE_USIZE: u32 = 6;
+pub const JADVOLNI_TYPE_I8: u32 = 7;
+pub const JADVOLNI_TYPE_I16: u32 = 8;
+pub const JADVOLNI_TYPE_I32: u32 = 9;
+pub const JADVOLNI_TYPE_I64: u32 = 10;
+pub const JADVOLNI_TYPE_I128: u32 = 11;
+pub const JADVOLNI_TYPE_ISIZE: u32 = 12;
+
 /// The bits of `nul_is_punctuation`.
 pub const JADVOLNI_NUL_IS_SEPARATOR: u8 = 1;
 pub const JADVOLNI_NUL_IS_PREFIX: u8 = 2;
@@ -203,6 +227,7 @@ const _: () = {
     );
     assert!(size_of::<jadvolni_fixed>() == 48 && offset_of!(jadvolni_fixed, point) == 32);
     assert!(size_of::<jadvolni_position>() == 16);
+    assert!(size_of::<jadvolni_suffix>() == 24 && offset_of!(jadvolni_suffix, r#type) == 16);
     assert!(size_of::<jadvolni_uint128>() == 16 && offset_of!(jadvolni_uint128, high) == 8);
     assert!(size_of::<jadvolni_int128>() == 16 && offset_of!(jadvolni_int128, high) == 8);
 };
@@ -305,6 +330,7 @@ extern "C" {
     pub fn jadvolni_parse_i32_column(text: *const c_char, len: usize, separator: u8, format: *const jadvolni_format, values: *mut i32, capacity: usize, count: *mut usize) -> jadvolni_result;
     pub fn jadvolni_parse_i64_column(text: *const c_char, len: usize, separator: u8, format: *const jadvolni_format, values: *mut i64, capacity: usize, count: *mut usize) -> jadvolni_result;
     pub fn jadvolni_parse_literal(text: *const c_char, len: usize, format: *const jadvolni_format, value: *mut jadvolni_uint128, suffix: *mut usize) -> jadvolni_result;
+    pub fn jadvolni_parse_typed_literal(text: *const c_char, len: usize, format: *const jadvolni_format, suffixes: *const jadvolni_suffix, suffix_count: usize, value: *mut jadvolni_uint128, suffix: *mut usize, entry: *mut usize) -> jadvolni_result;
     pub fn jadvolni_parse_table(text: *const c_char, len: usize, is_last: bool, table: *const jadvolni_table, capacity: usize, columns: *mut jadvolni_table_column, column_count: usize) -> jadvolni_table_result;
     pub fn jadvolni_parse_table_skipping(text: *const c_char, len: usize, is_last: bool, table: *const jadvolni_table, capacity: usize, columns: *mut jadvolni_table_column, column_count: usize, bad: *mut jadvolni_bad_row, bad_capacity: usize) -> jadvolni_skipping_result;
     pub fn jadvolni_row_place(text: *const c_char, len: usize, table: *const jadvolni_table, row: usize) -> jadvolni_row_result;

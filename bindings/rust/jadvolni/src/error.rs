@@ -55,6 +55,10 @@ pub enum Error {
     InvalidPoint,
     /// Fixed-point numbers have more than 38 places.
     InvalidPlaces,
+    /// No entry of a table of suffixes has the suffix of a literal. The place is where the suffix begins.
+    UnknownSuffix(usize),
+    /// An entry of a table of suffixes names no type, which none of this crate's does.
+    InvalidSuffixTable,
     /// A status that only a later library has.
     Unknown(u32),
 }
@@ -87,6 +91,8 @@ impl Error {
             20 => Error::InvalidFixedAffix,
             21 => Error::InvalidPoint,
             22 => Error::InvalidPlaces,
+            23 => Error::UnknownSuffix(outcome.place),
+            24 => Error::InvalidSuffixTable,
             other => Error::Unknown(other),
         })
     }
@@ -144,6 +150,10 @@ impl Error {
                 integer part",
             Error::InvalidPlaces =>
                 "fixed-point numbers have to have at most 38 places",
+            Error::UnknownSuffix(_) => "unknown suffix",
+            Error::InvalidSuffixTable =>
+                "each suffix of a table has to name a type, and its reserved bytes have \
+                to be 0",
             Error::Unknown(_) => "a status that only a later library has",
         }
     }
@@ -175,7 +185,8 @@ impl Error {
             | Error::TooFewCells(place)
             | Error::TooManyCells(place)
             | Error::MissingReturn(place)
-            | Error::MisplacedQuote(place) => Some(place),
+            | Error::MisplacedQuote(place)
+            | Error::UnknownSuffix(place) => Some(place),
             _ => None,
         }
     }

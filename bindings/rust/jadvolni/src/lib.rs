@@ -48,6 +48,7 @@ mod table_fault;
 mod table_read_error;
 #[cfg(feature = "std")]
 mod table_reader;
+mod typed_literal;
 mod within;
 
 pub use bad_rows::{parse_table_part_skipping, parse_table_skipping, row_place, BadRow, Skipping};
@@ -72,7 +73,8 @@ pub use table_fault::TableFault;
 pub use table_read_error::TableReadError;
 #[cfg(feature = "std")]
 pub use table_reader::TableReader;
-pub use within::{parse_within, parse_within_with_format, WithinError};
+pub use typed_literal::{parse_typed_literal, IntegerKind, Suffix, TypedLiteral};
+pub use within::{parse_within, parse_within_with_format, Excerpt, WithinError};
 
 use jadvolni_sys as sys;
 

@@ -1,7 +1,8 @@
 //! Each fault of each call, and the calls beside those of std.
 use jadvolni::{
     parse, parse_front, parse_front_with_format, parse_literal, parse_partial,
-    parse_partial_with_format, parse_with_format, Error, Format, Integer, Literal,
+    parse_partial_with_format, parse_typed_literal, parse_with_format, Error, Format, Integer,
+    IntegerKind, Literal, Suffix, TypedLiteral,
 };
 
 #[test]
@@ -53,6 +54,50 @@ fn literals() {
     assert_eq!(literal("+1"), Err(Error::InvalidPositiveSign(0)));
     let broken = Format::RUST.mantissa_radix(37);
     assert_eq!(parse_literal("1u8", &broken), Err(Error::InvalidMantissaRadix));
+}
+
+/// Suffixes of Rust, and the type of a literal without one. The last entry is never reached.
+static SUFFIXES: [Suffix; 6] = [
+    Suffix::new("u8", IntegerKind::U8),
+    Suffix::new("i8", IntegerKind::I8),
+    Suffix::new("", IntegerKind::I32),
+    Suffix::new("u128", IntegerKind::U128),
+    Suffix::new("isize", IntegerKind::Isize),
+    Suffix::new("u8", IntegerKind::U64),
+];
+
+/// The value of a literal of Rust, its type, its entry and its suffix.
+fn typed(text: &str) -> Result<(u128, IntegerKind, usize, &str), Error> {
+    let TypedLiteral { value, kind, entry, number_stop, stop } =
+        parse_typed_literal(text, &Format::RUST, &SUFFIXES)?;
+    Ok((value, kind, entry, &text[number_stop..stop]))
+}
+
+#[test]
+fn literals_with_types() {
+    assert_eq!(typed("255u8;"), Ok((255, IntegerKind::U8, 0, "u8")));
+    assert_eq!(typed("0x7Fi8"), Ok((127, IntegerKind::I8, 1, "i8")));
+    assert_eq!(typed("1_000.5"), Ok((1000, IntegerKind::I32, 2, "")));
+    assert_eq!(typed("1_isize)"), Ok((1, IntegerKind::Isize, 4, "isize")));
+    let greatest = u128::MAX.to_string() + "u128";
+    assert_eq!(typed(&greatest), Ok((u128::MAX, IntegerKind::U128, 3, "u128")));
+    assert_eq!(typed("300u8"), Err(Error::Overflow(2)));
+    assert_eq!(typed("128i8"), Err(Error::Overflow(2)));
+    assert_eq!(typed("2147483648"), Err(Error::Overflow(9)));
+    assert_eq!(typed("9223372036854775808isize"), Err(Error::Overflow(18)));
+    assert_eq!(typed("0b102"), Err(Error::InvalidDigit(4)));
+    assert_eq!(typed("12abc"), Err(Error::UnknownSuffix(2)));
+    assert_eq!(typed("12U8"), Err(Error::UnknownSuffix(2)));
+    assert_eq!(typed(""), Err(Error::Empty(0)));
+    assert_eq!(typed("-1i8"), Err(Error::Empty(0)));
+    let none = parse_typed_literal("12 ", &Format::RUST, &[]);
+    assert_eq!(none, Err(Error::UnknownSuffix(2)));
+    let broken = Format::RUST.mantissa_radix(37);
+    let refused = parse_typed_literal("1u8", &broken, &SUFFIXES);
+    assert_eq!(refused, Err(Error::InvalidMantissaRadix));
+    let entry = &SUFFIXES[1];
+    assert_eq!((entry.text(), entry.kind()), ("i8", IntegerKind::I8));
+    assert_eq!(format!("{entry:?}"), "Suffix(\"i8\", I8)");
 }
 
 #[test]
@@ -152,6 +197,8 @@ fn texts_of_faults_are_those_of_the_list() {
         Error::InvalidFixedAffix,
         Error::InvalidPoint,
         Error::InvalidPlaces,
+        Error::UnknownSuffix(7),
+        Error::InvalidSuffixTable,
         Error::Unknown(7),
     ];
     let said = faults.map(|fault| {

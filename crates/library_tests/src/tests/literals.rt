@@ -1,6 +1,7 @@
 // Tokens one by one, and callers. proofs/Tokens.antt has more sources.
 
 mod caller;
+mod typed;
 
 use crate::tests::answers;
 use lexical_literals::{Kind, Token, Tokens};
