@@ -1,14 +1,20 @@
 //! Fixed-point numbers as C reads them: the description, byte by byte, and the two calls of every type.
 
-ghost use Rattle.std.specs.Prelude.{◌≡◌};
+ghost use Rattle.std.specs.Prelude.{◌≡◌, IsTrue};
+ghost use Rattle.lexical_util.specs.Format.{standard};
+ghost use Rattle.lexical_parse_integer.specs.Answer.{view_of, with_place};
 ghost use Rattle.jadvolni.specs.Effect.{effect};
-ghost use Rattle.jadvolni.specs.Fixed.{error_place, error_status, fixed_call, fixed_format_status, fixed_front_call, fixed_known, fixed_of, fixed_status, integer_of};
+ghost use Rattle.jadvolni.specs.Fixed.{IsPlainFixed, error_place, error_status, fixed_call, fixed_format_status, fixed_front_call, fixed_known, fixed_of, fixed_status, front_effect, integer_of, whole_effect};
+ghost use Rattle.jadvolni.specs.FormatFields.{are_zeros};
 
+use crate::calls::UNKNOWN;
 use crate::format::FormatFields;
 use crate::outcome::{Outcome, UNKNOWN_FIELD, status_of};
 use crate::slot::Slot;
+use lexical_fixed::quick::{complete_if_not_short, front_at_once, partial_if_left, value_if_short};
 use lexical_fixed::{FixedError, FixedFormat, FixedFormatError, FromFixed};
 use lexical_parse_integer::NumberFormat;
+use lexical_parse_integer::format::STANDARD;
 use lexical_util::num::Integer;
 
 /// A description of fixed-point numbers, byte by byte: `jadvolni_fixed` in C, where each field is described.
@@ -25,6 +31,7 @@ pub struct FixedFields {
 }
 
 // The format of the integer part.
+#[inline(always)]
 fn integer_format(fields: &FormatFields) -> NumberFormat
     ensures { result ≡ integer_of fields.now }
 {
@@ -54,24 +61,51 @@ impl FixedFields {
     pub fn are_known(&self) -> bool
         ensures { result ≡ fixed_known self.now }
     {
-        // The reserved bytes are asked for as those of a format are.
+        self.integer.are_known() && self.keeps_reserved()
+    }
+
+    // Whether the reserved bytes are 0: they are asked for as those of a format are.
+    #[inline(always)]
+    fn keeps_reserved(&self) -> bool
+        ensures { result ≡ are_zeros self.now.reserved }
+    {
         let kept = FormatFields {
             nul_is_punctuation: 0,
             reserved: self.reserved,
             ..self.integer
         };
-        self.integer.are_known() && kept.are_known()
+        kept.are_known()
     }
 
-    /// The description that the fields stand for, which may be invalid.
-    pub fn format(&self) -> FixedFormat
-        ensures { result ≡ fixed_of self.now }
+    // Whether the description is valid and its integer part has the standard format: few words of it say so.
+    #[inline(always)]
+    fn is_plain(&self) -> bool
+        ensures { IsTrue result → IsPlainFixed self.now }
+    {
+        self.integer.is_standard() && self.keeps_reserved() && self.plain().is_plain()
+    }
+
+    // The description beside the standard format, which isn't made field by field.
+    #[inline(always)]
+    fn plain(&self) -> FixedFormat
+        ensures { result ≡ record (fixed_of self.now) { integer = standard } }
     {
         FixedFormat {
             point: if self.point == 0 { b'.' } else { self.point },
             places: self.places,
             takes_fewer: self.takes_fewer != 0,
+            integer: STANDARD,
+        }
+    }
+
+    /// The description that the fields stand for, which may be invalid.
+    #[inline(always)]
+    pub fn format(&self) -> FixedFormat
+        ensures { result ≡ fixed_of self.now }
+    {
+        FixedFormat {
             integer: integer_format(&self.integer),
+            ..self.plain()
         }
     }
 }
@@ -90,31 +124,89 @@ fn outcome_of(error: FixedError) -> Outcome
     }
 }
 
-/// The whole text, under a description that may be invalid.
-pub fn fixed<T: Integer, S: Slot<T>>(text: &[u8], fields: &FixedFields, value: &mut S) -> Outcome
+// Hands over what a whole text of so many bytes is.
+#[inline(always)]
+fn store<T: Integer, S: Slot<T>>(
+    answer: std::result::Result<T, FixedError>,
+    size: usize,
+    value: &mut S,
+) -> Outcome
     ensures { effect result (S.number value.new)
-        ≡ fixed_call fields.now T.TYPE text.now (S.number value.old) }
+        ≡ whole_effect size (S.number value.old) (view_of T.number answer) }
 {
-    if !fields.are_known() {
-        return Outcome {
-            status: UNKNOWN_FIELD,
-            place: 0,
-        };
-    }
-    match T::from_fixed(text, &fields.format()) {
+    match answer {
         Ok(number) => {
             value.put(number);
             Outcome {
                 status: 0,
-                place: text.len(),
+                place: size,
             }
         }
         Err(error) => outcome_of(error),
     }
 }
 
-/// The number in front of the text, under a description that may be invalid.
-pub fn fixed_front<T: Integer, S: Slot<T>>(
+// Hands over what a text's front is.
+#[inline(always)]
+fn give_front<T: Integer, S: Slot<T>>(
+    answer: std::result::Result<(T, usize), FixedError>,
+    value: &mut S,
+) -> Outcome
+    ensures { effect result (S.number value.new)
+        ≡ front_effect (S.number value.old) (view_of (with_place T.number) answer) }
+{
+    match answer {
+        Ok((number, place)) => {
+            value.put(number);
+            Outcome { status: 0, place }
+        }
+        Err(error) => outcome_of(error),
+    }
+}
+
+// The whole text, under a description that is made field by field.
+#[inline(never)]
+fn fixed_any<T: Integer, S: Slot<T>>(text: &[u8], fields: &FixedFields, value: &mut S) -> Outcome
+    ensures { effect result (S.number value.new)
+        ≡ fixed_call fields.now T.TYPE text.now (S.number value.old) }
+{
+    if !fields.are_known() {
+        return UNKNOWN;
+    }
+    store(T::from_fixed(text, &fields.format()), text.len(), value)
+}
+
+// The whole text, under a plain description, for a text that isn't short.
+#[inline(never)]
+fn fixed_plain<T: Integer, S: Slot<T>>(text: &[u8], fields: &FixedFields, value: &mut S) -> Outcome
+    requires { IsPlainFixed fields.now }
+    ensures { effect result (S.number value.new)
+        ≡ fixed_call fields.now T.TYPE text.now (S.number value.old) }
+{
+    match complete_if_not_short::<T>(text, &fields.plain()) {
+        Ok(number) => store(Ok(number), text.len(), value),
+        Err(error) => Outcome::of_fault(error),
+    }
+}
+
+/// The whole text, under a description that may be invalid. A short one is read in place where the description is plain.
+#[inline(always)]
+pub fn fixed<T: Integer, S: Slot<T>>(text: &[u8], fields: &FixedFields, value: &mut S) -> Outcome
+    ensures { effect result (S.number value.new)
+        ≡ fixed_call fields.now T.TYPE text.now (S.number value.old) }
+{
+    if !fields.is_plain() {
+        return fixed_any::<T, S>(text, fields, value);
+    }
+    match value_if_short::<T>(text, &fields.plain()) {
+        Some(number) => store(Ok(number), text.len(), value),
+        None => fixed_plain::<T, S>(text, fields, value),
+    }
+}
+
+// The number in front of the text, under a description that is made field by field.
+#[inline(never)]
+fn fixed_front_any<T: Integer, S: Slot<T>>(
     text: &[u8],
     fields: &FixedFields,
     value: &mut S,
@@ -123,17 +215,44 @@ pub fn fixed_front<T: Integer, S: Slot<T>>(
         ≡ fixed_front_call fields.now T.TYPE text.now (S.number value.old) }
 {
     if !fields.are_known() {
-        return Outcome {
-            status: UNKNOWN_FIELD,
-            place: 0,
-        };
+        return UNKNOWN;
     }
-    match T::from_fixed_partial(text, &fields.format()) {
-        Ok((number, place)) => {
-            value.put(number);
-            Outcome { status: 0, place }
-        }
-        Err(error) => outcome_of(error),
+    give_front(T::from_fixed_partial(text, &fields.format()), value)
+}
+
+// The number in front of the text, under a plain description, where it isn't had at once.
+#[inline(never)]
+fn fixed_front_plain<T: Integer, S: Slot<T>>(
+    text: &[u8],
+    fields: &FixedFields,
+    value: &mut S,
+) -> Outcome
+    requires { IsPlainFixed fields.now }
+    ensures { effect result (S.number value.new)
+        ≡ fixed_front_call fields.now T.TYPE text.now (S.number value.old) }
+{
+    match partial_if_left::<T>(text, &fields.plain()) {
+        Ok(found) => give_front(Ok(found), value),
+        Err(error) => Outcome::of_fault(error),
+    }
+}
+
+/// The number in front of the text, under a description that may be invalid. Most are read in place, as by [`fixed`].
+#[inline(always)]
+pub fn fixed_front<T: Integer, S: Slot<T>>(
+    text: &[u8],
+    fields: &FixedFields,
+    value: &mut S,
+) -> Outcome
+    ensures { effect result (S.number value.new)
+        ≡ fixed_front_call fields.now T.TYPE text.now (S.number value.old) }
+{
+    if !fields.is_plain() {
+        return fixed_front_any::<T, S>(text, fields, value);
+    }
+    match front_at_once::<T>(text, &fields.plain()) {
+        Some(found) => give_front(Ok(found), value),
+        None => fixed_front_plain::<T, S>(text, fields, value),
     }
 }
 

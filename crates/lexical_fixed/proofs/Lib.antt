@@ -3,11 +3,13 @@ mod Digits
 mod FixedRows
 mod Fractions
 mod IntegerParts
+mod JoinedDigits
 mod LastFractions
 mod Places
 mod QuickDigits
 mod QuickFronts
 mod QuickParts
+mod ShortNumbers
 mod Units
 mod Valid
 mod WholeByFront

@@ -6,7 +6,7 @@ ghost use Rattle.lexical_fixed.specs.Validity.{fixed_fault};
 
 use crate::error::FixedError;
 use crate::format::FixedFormat;
-use crate::parse::{complete, partial};
+use crate::parse::{complete, partial, partial_if_left, read_whole};
 use lexical_util::num::Integer;
 use lexical_util::result::Result;
 
@@ -57,9 +57,15 @@ pub trait FromFixed: ParseFixed {
     fn from_fixed(bytes: &[u8], format: &FixedFormat) -> std::result::Result<Self, FixedError>
         ensures { view_of Self.number result ≡ complete_if_fixed format.now Self.TYPE bytes.now }
     {
-        match format.error() {
+        if format.is_plain() {
+            return match complete::<Self>(bytes, format) {
+                Ok(value) => Ok(value),
+                Err(error) => Err(FixedError::Text(error)),
+            };
+        }
+        match format.first_fault() {
             Some(broken) => Err(FixedError::Format(broken)),
-            None => match complete::<Self>(bytes, format) {
+            None => match read_whole::<Self>(bytes, format) {
                 Ok(value) => Ok(value),
                 Err(error) => Err(FixedError::Text(error)),
             },
@@ -80,9 +86,15 @@ pub trait FromFixed: ParseFixed {
         ensures { view_of (with_place Self.number) result
             ≡ partial_if_fixed format.now Self.TYPE bytes.now }
     {
-        match format.error() {
+        if format.is_plain() {
+            return match partial::<Self>(bytes, format) {
+                Ok(found) => Ok(found),
+                Err(error) => Err(FixedError::Text(error)),
+            };
+        }
+        match format.first_fault() {
             Some(broken) => Err(FixedError::Format(broken)),
-            None => match partial::<Self>(bytes, format) {
+            None => match partial_if_left::<Self>(bytes, format) {
                 Ok(found) => Ok(found),
                 Err(error) => Err(FixedError::Text(error)),
             },
