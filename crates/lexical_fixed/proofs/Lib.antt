@@ -2,6 +2,7 @@
 mod Digits
 mod FixedRows
 mod Fractions
+mod FrontByWhole
 mod IntegerParts
 mod JoinedDigits
 mod LastFractions

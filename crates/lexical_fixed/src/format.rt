@@ -81,7 +81,7 @@ impl FixedFormat {
 
     // The same by the rules, one after the other.
     #[inline(never)]
-    pub(crate) fn first_fault(&self) -> Option<FixedFormatError>
+    fn first_fault(&self) -> Option<FixedFormatError>
         ensures { result ≡ fixed_fault self.now }
     {
         if let Some(error) = self.integer.error() {

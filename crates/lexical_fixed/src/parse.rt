@@ -229,6 +229,15 @@ pub fn complete_if_not_short<T: Integer>(text: &[u8], format: &FixedFormat) -> R
     }
 }
 
+// The same out of line, so that a short text pays for none of it.
+#[inline(never)]
+fn read_not_short<T: Integer>(text: &[u8], format: &FixedFormat) -> Result<T>
+    requires valid { IsNone (fixed_fault format.now) }
+    ensures { view_of T.number result ≡ complete_fixed format.now T.TYPE text.now }
+{
+    complete_if_not_short::<T>(text, format)
+}
+
 // What the whole text stands for.
 #[inline(always)]
 pub(crate) fn complete<T: Integer>(text: &[u8], format: &FixedFormat) -> Result<T>
@@ -237,7 +246,7 @@ pub(crate) fn complete<T: Integer>(text: &[u8], format: &FixedFormat) -> Result<
 {
     match value_if_short::<T>(text, format) {
         Some(value) => Ok(value),
-        None => complete_if_not_short::<T>(text, format),
+        None => read_not_short::<T>(text, format),
     }
 }
 
