@@ -1,21 +1,22 @@
 //! Fixed-point numbers as C reads them: the description, byte by byte, and the two calls of every type.
 
-ghost use Rattle.std.specs.Prelude.{◌≡◌, IsTrue};
+ghost use Rattle.std.specs.Prelude.{◌≡◌, IsTrue, None};
+ghost use Rattle.lexical_fixed.specs.Grammar.{if_fixed};
 ghost use Rattle.lexical_util.specs.Format.{standard};
 ghost use Rattle.lexical_parse_integer.specs.Answer.{view_of, with_place};
 ghost use Rattle.jadvolni.specs.Effect.{effect};
-ghost use Rattle.jadvolni.specs.Fixed.{IsPlainFixed, error_place, error_status, fixed_call, fixed_format_status, fixed_front_call, fixed_known, fixed_of, fixed_status, front_effect, integer_of, whole_effect};
-ghost use Rattle.jadvolni.specs.FormatFields.{are_zeros};
+ghost use Rattle.jadvolni.specs.Fixed.{IsPlainFixed, fixed_call, fixed_format_status, fixed_front_call, fixed_known, fixed_of, fixed_status, front_effect, integer_of, whole_effect};
+ghost use Rattle.jadvolni.specs.FormatFields.{are_known, are_zeros, format_of};
 
 use crate::calls::UNKNOWN;
 use crate::format::FormatFields;
 use crate::outcome::{Outcome, UNKNOWN_FIELD, status_of};
 use crate::slot::Slot;
 use lexical_fixed::quick::{complete_if_not_short, front_at_once, partial_if_left, value_if_short};
-use lexical_fixed::{FixedError, FixedFormat, FixedFormatError, FromFixed};
-use lexical_parse_integer::NumberFormat;
+use lexical_fixed::{FixedFormat, FixedFormatError};
 use lexical_parse_integer::format::STANDARD;
 use lexical_util::num::Integer;
+use lexical_util::result::Result;
 
 /// A description of fixed-point numbers, byte by byte: `jadvolni_fixed` in C, where each field is described.
 ///
@@ -30,17 +31,18 @@ pub struct FixedFields {
     pub reserved: [u8; 13],
 }
 
-// The format of the integer part.
+// The fields of the integer part: a radix of 0 stands for 10, and for a required digit.
 #[inline(always)]
-fn integer_format(fields: &FormatFields) -> NumberFormat
-    ensures { result ≡ integer_of fields.now }
+fn completed(fields: &FormatFields) -> FormatFields
+    ensures format { format_of result ≡ integer_of fields.now }
+    ensures known { are_known result ≡ are_known fields.now }
 {
     let mut fields = *fields;
     if fields.mantissa_radix == 0 {
         fields.mantissa_radix = 10;
         fields.required_mantissa_digits = 1;
     }
-    fields.format()
+    fields
 }
 
 // The status of a fault of a description.
@@ -77,12 +79,22 @@ impl FixedFields {
         kept.are_known()
     }
 
+    // Whether the integer part has the standard format, in full or by a radix of 0, and nothing that is unknown.
+    #[inline(always)]
+    fn has_standard_integer(&self) -> bool
+        ensures known { IsTrue result → IsTrue (are_known self.now.integer) }
+        ensures integer { IsTrue result → integer_of self.now.integer ≡ standard }
+    {
+        let fields = &self.integer;
+        fields.is_standard() || (fields.mantissa_radix == 0 && completed(fields).is_standard())
+    }
+
     // Whether the description is valid and its integer part has the standard format: few words of it say so.
     #[inline(always)]
     fn is_plain(&self) -> bool
         ensures { IsTrue result → IsPlainFixed self.now }
     {
-        self.integer.is_standard() && self.keeps_reserved() && self.plain().is_plain()
+        self.has_standard_integer() && self.keeps_reserved() && self.plain().is_plain()
     }
 
     // The description beside the standard format, which isn't made field by field.
@@ -104,35 +116,17 @@ impl FixedFields {
         ensures { result ≡ fixed_of self.now }
     {
         FixedFormat {
-            integer: integer_format(&self.integer),
+            integer: completed(&self.integer).format(),
             ..self.plain()
         }
     }
 }
 
-// What a fault is to C.
-fn outcome_of(error: FixedError) -> Outcome
-    ensures status { result.status ≡ error_status error }
-    ensures place { result.place ≡ error_place error }
-{
-    match error {
-        FixedError::Format(error) => Outcome {
-            status: fixed_status(error),
-            place: 0,
-        },
-        FixedError::Text(error) => Outcome::of_fault(error),
-    }
-}
-
-// Hands over what a whole text of so many bytes is.
+// Hands over what a whole text of so many bytes is, under a valid description.
 #[inline(always)]
-fn store<T: Integer, S: Slot<T>>(
-    answer: std::result::Result<T, FixedError>,
-    size: usize,
-    value: &mut S,
-) -> Outcome
+fn store<T: Integer, S: Slot<T>>(answer: Result<T>, size: usize, value: &mut S) -> Outcome
     ensures { effect result (S.number value.new)
-        ≡ whole_effect size (S.number value.old) (view_of T.number answer) }
+        ≡ whole_effect size (S.number value.old) (if_fixed None (view_of T.number answer)) }
 {
     match answer {
         Ok(number) => {
@@ -142,25 +136,33 @@ fn store<T: Integer, S: Slot<T>>(
                 place: size,
             }
         }
-        Err(error) => outcome_of(error),
+        Err(error) => Outcome::of_fault(error),
     }
 }
 
-// Hands over what a text's front is.
+// Hands over what a text's front is, under a valid description.
 #[inline(always)]
-fn give_front<T: Integer, S: Slot<T>>(
-    answer: std::result::Result<(T, usize), FixedError>,
-    value: &mut S,
-) -> Outcome
+fn give_front<T: Integer, S: Slot<T>>(answer: Result<(T, usize)>, value: &mut S) -> Outcome
     ensures { effect result (S.number value.new)
-        ≡ front_effect (S.number value.old) (view_of (with_place T.number) answer) }
+        ≡ front_effect (S.number value.old) (if_fixed None (view_of (with_place T.number) answer)) }
 {
     match answer {
         Ok((number, place)) => {
             value.put(number);
             Outcome { status: 0, place }
         }
-        Err(error) => outcome_of(error),
+        Err(error) => Outcome::of_fault(error),
+    }
+}
+
+// What an invalid description is to C.
+fn refusal(error: FixedFormatError) -> Outcome
+    ensures status { result.status ≡ fixed_status error }
+    ensures place { result.place ≡ 0 }
+{
+    Outcome {
+        status: fixed_status(error),
+        place: 0,
     }
 }
 
@@ -173,7 +175,11 @@ fn fixed_any<T: Integer, S: Slot<T>>(text: &[u8], fields: &FixedFields, value: &
     if !fields.are_known() {
         return UNKNOWN;
     }
-    store(T::from_fixed(text, &fields.format()), text.len(), value)
+    let format = fields.format();
+    match format.error() {
+        Some(error) => refusal(error),
+        None => store(complete_if_not_short::<T>(text, &format), text.len(), value),
+    }
 }
 
 // The whole text, under a plain description, for a text that isn't short.
@@ -183,10 +189,11 @@ fn fixed_plain<T: Integer, S: Slot<T>>(text: &[u8], fields: &FixedFields, value:
     ensures { effect result (S.number value.new)
         ≡ fixed_call fields.now T.TYPE text.now (S.number value.old) }
 {
-    match complete_if_not_short::<T>(text, &fields.plain()) {
-        Ok(number) => store(Ok(number), text.len(), value),
-        Err(error) => Outcome::of_fault(error),
-    }
+    store(
+        complete_if_not_short::<T>(text, &fields.plain()),
+        text.len(),
+        value,
+    )
 }
 
 /// The whole text, under a description that may be invalid. A short one is read in place where the description is plain.
@@ -217,7 +224,11 @@ fn fixed_front_any<T: Integer, S: Slot<T>>(
     if !fields.are_known() {
         return UNKNOWN;
     }
-    give_front(T::from_fixed_partial(text, &fields.format()), value)
+    let format = fields.format();
+    match format.error() {
+        Some(error) => refusal(error),
+        None => give_front(partial_if_left::<T>(text, &format), value),
+    }
 }
 
 // The number in front of the text, under a plain description, where it isn't had at once.
@@ -231,10 +242,7 @@ fn fixed_front_plain<T: Integer, S: Slot<T>>(
     ensures { effect result (S.number value.new)
         ≡ fixed_front_call fields.now T.TYPE text.now (S.number value.old) }
 {
-    match partial_if_left::<T>(text, &fields.plain()) {
-        Ok(found) => give_front(Ok(found), value),
-        Err(error) => Outcome::of_fault(error),
-    }
+    give_front(partial_if_left::<T>(text, &fields.plain()), value)
 }
 
 /// The number in front of the text, under a description that may be invalid. Most are read in place, as by [`fixed`].
