@@ -209,7 +209,8 @@ impl FormatFields {
     #[inline(always)]
     #[tactic(auto, using(crate::proofs::ZeroBytes::no_bits))]
     pub(crate) fn is_standard(&self) -> bool
-        ensures { IsTrue result → format_of self.now ≡ standard }
+        ensures format { IsTrue result → format_of self.now ≡ standard }
+        ensures known { IsTrue result → IsTrue (are_known self.now) }
     {
         asks_for_ten_alone(*self) && asks_for_no_signs(self) && asks_for_no_literals(self)
     }
