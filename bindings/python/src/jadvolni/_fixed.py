@@ -43,12 +43,6 @@ class Fixed:
     takes_fewer: bool = False
     format: Optional[Format] = None
 
-    if TYPE_CHECKING:
-
-        @property
-        def _fixed(self) -> bytes:
-            """The description as the library has it."""
-
     def __post_init__(self) -> None:
         object.__setattr__(self, "places", _integer("places", self.places))
         if not isinstance(self.takes_fewer, bool):
@@ -93,3 +87,9 @@ class Fixed:
 
     def __hash__(self) -> int:
         return hash((self._fixed, self.type))
+
+    if TYPE_CHECKING:
+
+        @property
+        def _fixed(self) -> bytes:
+            """The description as the library has it."""

@@ -102,12 +102,6 @@ class Format:
     literal_prefixes: bool = False
     literal_octal_zero: bool = False
 
-    if TYPE_CHECKING:
-
-        @property
-        def _fields(self) -> bytes:
-            """The format as the library has it."""
-
     def __post_init__(self) -> None:
         object.__setattr__(self, "mantissa_radix", _integer("mantissa_radix", self.mantissa_radix))
         given = self._given()
@@ -150,6 +144,12 @@ class Format:
 
     def __hash__(self) -> int:
         return hash(self._fields)
+
+    if TYPE_CHECKING:
+
+        @property
+        def _fields(self) -> bytes:
+            """The format as the library has it."""
 
 
 def _integer(name: str, value: Any) -> int:

@@ -125,16 +125,18 @@ def parse_table(
     without a byte is none. missing: what stands for a missing number where a Column has may_miss,
     which then is a Sparse: by default an empty cell. widths: how many bytes each column's cells
     have, in the place of separators. is_records: rows have as many bytes as the widths together,
-    at least one, and no line feed behind them. threads: how many read the text, in parts.
+    at least one, and no line feed behind them. threads: how many read the text, in parts; at a
+    fault `out` then may hold anything.
 
     ParseError has the first wrong cell in reading order: its `row`, `line`, `column` and `name`,
     its first bytes as `text`, the `place` of the wrong byte, and its row from `row_start` to
     `row_stop`. They count from 0: a header is no row, and its lines and bytes count. The message
     counts lines and columns from 1, as an editor does.
 
-    on_error: "skip" skips rows at fault, and stores the others one behind another; the table's
-    `bad_rows` counts them. errors: a list that the ParseError of each bad row is appended to, or a
-    function that is called with it, in their order.
+    on_error: "skip" skips rows at fault, and stores the others one behind another, in `out` too,
+    where the place behind the last one may change; the table's `bad_rows` counts them. errors: a
+    list that the ParseError of each bad row is appended to, or a function that is called with it,
+    in the order of the rows. What it raises ends the reading.
     """
     how = How(separator, has_returns, has_quotes, allows_blanks, skips_empty_rows, missing, widths,
               is_records)
