@@ -195,10 +195,12 @@ static PyMethodDef METHODS[] = {
          "The number that the whole text stands for.\n\n"
          "The text is a str, read as UTF-8, or an object of contiguous bytes. ParseError tells\n"
          "why it is no number of the type, or that it is less than `min` or more than `max`, and\n"
-         "FormatError why the format is none."),
+         "FormatError why the format is none. A Fixed in the place of the type reads a\n"
+         "fixed-point number, in units of its last place."),
     CALL(parse_front,
          "parse_front(text, type=\"i64\", format=None)\n--\n\n"
-         "The number in front of the text, and how many bytes of the text it has.\n\n"
+         "The number in front of the text, and how many bytes of the text it has. A Fixed may\n"
+         "stand in the place of the type.\n\n"
          "Where no digit was read, ParseError tells the place where reading stopped. Where more\n"
          "bytes may come, an answer at the text's end isn't final: 12 may go on as 123."),
     CALL(parse_partial,

@@ -123,7 +123,9 @@ class Skipping(unittest.TestCase):
             head = b"a,b,c,d" + end if header else b""
             parts, bad = one_by_one(text, COLUMNS, (len(head), int(header)), **given)
             wanted = joined(parts)
-            with mock.patch.dict(sys.modules, {"numpy": None} if turn % 2 else {}):
+            few = {"_WINDOW": chance.choice((1, 9, 1 << 18)), "_TOLD": chance.choice((1, 2, 4096))}
+            with mock.patch.dict(sys.modules, {"numpy": None} if turn % 2 else {}), \
+                    mock.patch.multiple("jadvolni._reader", **few):
                 for tables, errors in self.ways_of(head + text, header, given):
                     found = joined(map(test_threads.lists, tables))
                     self.assertEqual(found, wanted, (text, given))
@@ -207,6 +209,13 @@ class Skipping(unittest.TestCase):
 
     def test_records(self):
         text = b"0112" b"2x" b"33" b"\n0" b"44" b"5"
+        few = {"_WINDOW": 3, "_TOLD": 1}
+        with mock.patch.multiple("jadvolni._reader", **few):
+            self.records(text)
+        self.records(text)
+
+    def records(self, text):
+        """Records, of which some are wrong."""
         for tables, bad in self.ways(text, PAIR, widths=[1, 1], is_records=True):
             rows = [pair for it in tables for pair in zip(it["a"].tolist(), it["b"].tolist())]
             self.assertEqual(rows, [(0, 1), (1, 2), (3, 3), (4, 4)])
