@@ -37,17 +37,15 @@ class AtFault(NamedTuple):
     source: str = ""
 
 
-def at_fault(on_error: object, errors: Any, source: object = "") -> AtFault:
+def at_fault(on_error: object, errors: Any, source: object = None) -> AtFault:
     """What is done at a fault, by the arguments of a call."""
-    if on_error == "raise" and errors is None:
-        return AtFault(source=source if isinstance(source, str) else "")
     if on_error not in ("raise", "skip"):
         raise ValueError(f"on_error has to be 'raise' or 'skip', and not {on_error!r}")
     skips = on_error == "skip"
     if errors is not None and not skips:
         raise ValueError("errors has to be None unless on_error is 'skip'")
-    tell = getattr(errors, "append", errors)
-    if errors is not None and not callable(tell):
+    tell = None if errors is None else getattr(errors, "append", errors)
+    if tell is not None and not callable(tell):
         kind = type(errors).__name__
         raise TypeError(f"errors has to be a list, a function or None, and not {kind}")
     return AtFault(skips, tell, source if isinstance(source, str) else "")
