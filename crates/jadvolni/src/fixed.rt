@@ -6,7 +6,7 @@ ghost use Rattle.lexical_util.specs.Format.{standard};
 ghost use Rattle.lexical_parse_integer.specs.Answer.{view_of, with_place};
 ghost use Rattle.jadvolni.specs.Effect.{effect};
 ghost use Rattle.jadvolni.specs.Fixed.{IsPlainFixed, fixed_call, fixed_format_status, fixed_front_call, fixed_known, fixed_of, fixed_status, front_effect, integer_of, whole_effect};
-ghost use Rattle.jadvolni.specs.FormatFields.{are_known, are_zeros, format_of};
+ghost use Rattle.jadvolni.specs.FormatFields.{are_known, are_zeros};
 ghost use Rattle.jadvolni.specs.Tables.{number_status};
 
 use crate::calls::UNKNOWN;
@@ -15,6 +15,7 @@ use crate::outcome::{Outcome, UNKNOWN_FIELD, status_of};
 use crate::slot::Slot;
 use lexical_fixed::quick::{complete_if_not_short, front_at_once, partial_if_left, value_if_short};
 use lexical_fixed::{FixedFormat, FixedFormatError};
+use lexical_parse_integer::NumberFormat;
 use lexical_parse_integer::format::STANDARD;
 use lexical_util::num::Integer;
 use lexical_util::result::Result;
@@ -32,18 +33,17 @@ pub struct FixedFields {
     pub reserved: [u8; 13],
 }
 
-// The fields of the integer part: a radix of 0 stands for 10, and for a required digit.
+// The format of the integer part.
 #[inline(always)]
-fn completed(fields: &FormatFields) -> FormatFields
-    ensures format { format_of result ≡ integer_of fields.now }
-    ensures known { are_known result ≡ are_known fields.now }
+fn integer_format(fields: &FormatFields) -> NumberFormat
+    ensures { result ≡ integer_of fields.now }
 {
     let mut fields = *fields;
     if fields.mantissa_radix == 0 {
         fields.mantissa_radix = 10;
         fields.required_mantissa_digits = 1;
     }
-    fields
+    fields.format()
 }
 
 // The status of a fault of a description.
@@ -93,19 +93,18 @@ impl FixedFields {
         jadvolni_fixed_error(self)
     }
 
-    // Whether the integer part has the standard format, in full or by a radix of 0, and nothing that is unknown.
+    // Whether the integer part has the standard format, and nothing that is unknown: its fields say so, or all are 0.
     #[inline(always)]
     fn has_standard_integer(&self) -> bool
         ensures known { IsTrue result → IsTrue (are_known self.now.integer) }
         ensures integer { IsTrue result → integer_of self.now.integer ≡ standard }
     {
-        let fields = &self.integer;
-        fields.is_standard() || (fields.mantissa_radix == 0 && completed(fields).is_standard())
+        self.integer.is_standard() || self.integer.is_zero()
     }
 
     // Whether the description is valid and its integer part has the standard format: few words of it say so.
     #[inline(always)]
-    fn is_plain(&self) -> bool
+    pub(crate) fn is_plain(&self) -> bool
         ensures { IsTrue result → IsPlainFixed self.now }
     {
         self.has_standard_integer() && self.keeps_reserved() && self.plain().is_plain()
@@ -113,7 +112,7 @@ impl FixedFields {
 
     // The description beside the standard format, which isn't made field by field.
     #[inline(always)]
-    fn plain(&self) -> FixedFormat
+    pub(crate) fn plain(&self) -> FixedFormat
         ensures { result ≡ record (fixed_of self.now) { integer = standard } }
     {
         FixedFormat {
@@ -130,7 +129,7 @@ impl FixedFields {
         ensures { result ≡ fixed_of self.now }
     {
         FixedFormat {
-            integer: completed(&self.integer).format(),
+            integer: integer_format(&self.integer),
             ..self.plain()
         }
     }

@@ -19,7 +19,8 @@ pub fn whole_by_front()
         → complete_fixed fixed type text ≡ Ok value }
 {}
 
-/// The number of a whole text is the number in front of it, up to its end: so the two answer alike, or one is a fault.
+/// The number of a whole text is the number in front of it, up to its end. So, by `whole_by_front`, a whole text is a
+/// number exactly where its front is that number and all of the text.
 ///
 /// With two places `12.50` as a whole is 1250, and so is its front, up to 5.
 pub fn front_by_whole()
