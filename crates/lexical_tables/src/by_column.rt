@@ -77,15 +77,17 @@ fn read_text<C: TableColumn>(
         (option_map kind_of (C.target target.old)) (view_of_cell cell.entry)))
         (C.target target.old) }
 {
-    if let Some(fault) = quote_fault(dialect.has_quotes, false, cell) {
-        return Some(fault);
+    let misplaced = quote_fault(dialect.has_quotes, false, cell);
+    if misplaced.is_some() {
+        return misplaced;
     }
     let held = content(cell, dialect.has_quotes, false);
-    if target.may_miss() && held.text == dialect.missing {
+    let is_missing = target.may_miss() && held.text == dialect.missing;
+    if is_missing {
         target.put_missing(row);
-        return None;
+    } else {
+        target.put_text(row, text_of(held, dialect.has_quotes));
     }
-    target.put_text(row, text_of(held, dialect.has_quotes));
     None
 }
 
