@@ -1,9 +1,10 @@
 //! The columns of a table, as C writes them.
 
-ghost use Rattle.std.specs.Prelude.{◌≡◌, ◌≢◌, ◌+◌, ◌<◌, ◌≤◌, ◌^◌, ℕ, IsTrue, None, false, length, take, option_map, true};
+ghost use Rattle.std.specs.Prelude.{◌≡◌, ◌≢◌, ◌+◌, is_none, ◌<◌, ◌≤◌, ◌^◌, ℕ, IsTrue, None, Some, false, length, take, option_map, true};
 ghost use Rattle.lexical_util.specs.Format.{standard};
 ghost use Rattle.lexical_tables.specs.ByColumn.{IsUsable};
-ghost use Rattle.lexical_tables.specs.Targets.{has_bits, keeps_text, text_fault};
+ghost use Rattle.lexical_tables.specs.Readings.{Text};
+ghost use Rattle.lexical_tables.specs.Targets.{has_bits, keeps_text, put_value, text_fault};
 ghost use Rattle.jadvolni.specs.Arrays.{array_in};
 ghost use Rattle.jadvolni.specs.Fixed.{fixed_of};
 ghost use Rattle.jadvolni.specs.FormatFields.{format_of};
@@ -42,6 +43,14 @@ impl ColumnFields<'_> {
         ensures integers { IsTrue result → self.now.description.places ≡ 0 }
     {
         self.description.places == 0 && self.description.integer.is_standard()
+    }
+
+    // Whether no array of numbers has room. Only columns with an array of texts ask it: so it stays out of the way of numbers.
+    #[inline(never)]
+    fn has_no_numbers(&self) -> bool
+        ensures { result ≡ is_none (array_in self.now.arrays) }
+    {
+        self.arrays.room().is_none()
     }
 
     // Whether the column has bits, and too few for so many rows.
@@ -211,6 +220,20 @@ impl ColumnFields<'_> {
         self.arrays.put_at_once(row, ahead, size)
     }
 
+    // Puts where all of a text stands into a row's place of a column of texts, and sets the row's bit. Tables hand texts to
+    // `put_text`: so it stays out of the way of numbers.
+    #[inline(never)]
+    fn keep_text(&mut self, row: usize, start: usize, size: usize)
+        requires text { keeps_text (target_of self.old) ≡ true }
+        requires usable { IsUsable (row + 1) (target_of self.old) }
+        ensures { target_of self.new ≡ option_map (put_value row (Some (Text
+            (record { start = start; size = size; has_doubled_quotes = false }))))
+            (target_of self.old) }
+    {
+        self.put_whole_text(row, start, size);
+        self.put_presence(row, true);
+    }
+
     /// What is wrong with the column, if so many rows are asked for.
     pub fn status(&self, rows: usize) -> u32
         ensures { result ≡ column_status rows self.now }
@@ -261,7 +284,7 @@ impl TableColumn for ColumnFields<'_> {
 
     #[inline(always)]
     fn is_text(&self) -> bool {
-        !self.texts.is_empty() && self.arrays.number_type().is_none()
+        !self.texts.is_empty() && self.has_no_numbers()
     }
 
     #[inline(always)]
@@ -317,8 +340,7 @@ impl TableColumn for ColumnFields<'_> {
         options: &Options,
     ) -> Option<Error> {
         if self.is_text() {
-            self.put_whole_text(row, start, text.len());
-            self.put_presence(row, true);
+            self.keep_text(row, start, text.len());
             return None;
         }
         if let Some(error) = self.put_parsed_number(row, start, text, ahead, options) {
