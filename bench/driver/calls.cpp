@@ -298,6 +298,27 @@ bool answer_skipping(const Case &asked) {
     return true;
 }
 
+// A table as a bank exports it: a number of the case's type, a text, and a fixed-point number.
+bool answer_export(const Case &asked) {
+    const How &how = asked.how;
+    Columns columns(asked);
+    std::vector<jadvolni_cell_text> texts(how.rows);
+    auto &all = columns.all();
+    all[1] = {};
+    all[1].text = {texts.data(), texts.size()};
+    all[2].point = static_cast<std::uint8_t>(how.point);
+    all[2].places = static_cast<std::uint8_t>(how.places);
+    all[2].takes_fewer = how.fewer != 0;
+    jadvolni_table table = table_of(how, {});
+    count(asked, [&](const char *text, std::size_t size, Seen &seen) {
+        jadvolni_table_result found =
+            jadvolni_parse_table(text, size, !how.is_part, &table, how.rows, all.data(), all.size());
+        seen.places += found.rows + found.column + found.place + texts[0].start + texts[0].size;
+        seen.faults += found.status;
+    });
+    return true;
+}
+
 bool answer_row_place(const Case &asked) {
     jadvolni_table table = table_of(asked.how, {});
     count(asked, [&](const char *text, std::size_t size, Seen &seen) {
@@ -318,6 +339,7 @@ bool answer_line_column(const Case &asked) {
 
 bool answer_new(const Case &asked) {
     if (asked.call == "jadvolni_parse_table_skipping") return answer_skipping(asked);
+    if (asked.call == "jadvolni_parse_export") return answer_export(asked);
     if (asked.call == "jadvolni_row_place") return answer_row_place(asked);
     if (asked.call == "jadvolni_line_column") return answer_line_column(asked);
     return answer_fixed(asked);
