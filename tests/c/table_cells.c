@@ -59,7 +59,8 @@ static void each_type(void)
     EACH_TYPE(i8, int8_t, "-12.8", "12.7", "12.8", INT8_MIN, INT8_MAX);
     EACH_TYPE(i16, int16_t, "-3276.8", "3276.7", "3276.8", INT16_MIN, INT16_MAX);
     EACH_TYPE(i32, int32_t, "-214748364.8", "214748364.7", "214748364.8", INT32_MIN, INT32_MAX);
-    EACH_TYPE(i64, int64_t, "-922337203685477580.8", "922337203685477580.7", "922337203685477580.8", INT64_MIN, INT64_MAX);
+    EACH_TYPE(i64, int64_t, "-922337203685477580.8", "922337203685477580.7", "922337203685477580.8", INT64_MIN,
+              INT64_MAX);
 }
 
 /* Amounts with groups, also within quotes, beside an integer. */
@@ -300,7 +301,8 @@ static void arrays(void)
 /* ---- both, with bad rows skipped */
 
 /* What is known of a bad row is this. */
-static int is_bad(jadvolni_bad_row bad, size_t row, uint32_t status, size_t column, size_t place, size_t start, size_t stop)
+static int is_bad(jadvolni_bad_row bad, size_t row, uint32_t status, size_t column, size_t place, size_t start,
+                  size_t stop)
 {
     return bad.row == row && bad.status == status && bad.column == column && bad.place == place && bad.start == start
         && bad.stop == stop;
@@ -308,14 +310,16 @@ static int is_bad(jadvolni_bad_row bad, size_t row, uint32_t status, size_t colu
 
 static void bad_rows(void)
 {
-    static const char text[] = "\"26.11.2026\";\"-1.234,50\";1\r\n27.11.2026;1,5;2\n28.11.2026;2,00;x\n\"a\"\"b\";3,00;4";
+    static const char text[] = "\"26.11.2026\";\"-1.234,50\";1\r\n27.11.2026;1,5;2\n28.11.2026;2,00;x\n"
+                               "\"a\"\"b\";3,00;4";
     size_t len = sizeof text - 1;
     jadvolni_cell_text days[4] = {NO_TEXT, NO_TEXT, NO_TEXT, NO_TEXT};
     int64_t cents[4] = {77, 77, 77, 77};
     int32_t numbers[4] = {77, 77, 77, 77};
     jadvolni_bad_row bad[2];
     jadvolni_table table = {.separator = ';', .has_quotes = 1, .allows_returns = 1};
-    jadvolni_table_column columns[] = {{.text = {days, 4}}, amounts_into(cents, 4), {.format = STANDARD, .i32 = {numbers, 4}}};
+    jadvolni_table_column columns[] = {{.text = {days, 4}}, amounts_into(cents, 4),
+                                       {.format = STANDARD, .i32 = {numbers, 4}}};
     jadvolni_skipping_result r = jadvolni_parse_table_skipping(text, len, true, &table, 4, columns, 3, bad, 2);
     CHECK(r.status == JADVOLNI_OK && r.column == 0 && r.rows == 2 && r.bad_rows == 2 && r.place == 76);
     CHECK(stands(days[0], 1, 10, 0) && stands(days[1], 64, 4, 1) && IS_BEFORE(days[2]) && IS_BEFORE(days[3]));
