@@ -132,7 +132,7 @@ def of_exports() -> Iterator[Case]:
             b"27.11.2026;DE 7;5 nails; 12,00 \n28.11.2026;;\"a\n\tb\";\n")
     said = ('26.11.2026 | 0012 | rent "May", 2nd | -1234.50\n'
             "27.11.2026 | DE 7 | 5 nails | 12.00\n28.11.2026 |  | a  b | no amount\n")
-    yield Case(program, names + rows, f"{said}-1222.50\n", words=bank)
+    yield Case(program, names + b"\n" + rows + b"\r\n", f"{said}-1222.50\n", words=bank)
     yield Case(program, b'day,order,item,amount\n26 Nov,7,"a, b","1,234.00"\n,8,c,""\n,9,d,-0.01',
                "26 Nov | 7 | a, b | 1234.00\n | 8 | c | no amount\n | 9 | d | -0.01\n1233.99\n",
                words=shop)

@@ -45,7 +45,8 @@ int main(int count, char **arguments)
 {
     if (count != 2 || strlen(arguments[1]) != 3) errx(2, "usage: bank_export MARKS < FILE");
     const uint8_t *marks = (const uint8_t *)arguments[1];
-    const jadvolni_table table = {.separator = marks[0], .has_quotes = 1, .allows_blanks = 1, .allows_returns = 1};
+    const jadvolni_table table = {.separator = marks[0], .has_quotes = 1, .allows_blanks = 1, .skips_empty_rows = 1,
+                                  .allows_returns = 1};
     jadvolni_table_column columns[] = {
         {.text = {texts[0], ROWS}}, {.text = {texts[1], ROWS}}, {.text = {texts[2], ROWS}},
         {.format = {.digit_separator = marks[2], .integer_internal_digit_separator = 1}, .point = marks[1], .places = 2,
