@@ -74,7 +74,7 @@ def with_widths(chance: random.Random, dialect: Dialect) -> Dialect:
 def random_dialect(chance: random.Random) -> Dialect:
     """A dialect with any options."""
     has_returns, has_quotes, allows_blanks, skips = (chance.random() < 0.5 for _ in range(4))
-    odd = not has_quotes and chance.random() < 0.03
+    odd = chance.random() < 0.03
     separator = chance.choice(ODD_SEPARATORS if odd else SEPARATORS)
     columns = chance.choice((0, 1, 1, 2, 2, 2, 3, 3, 4, 5))
     dialect = Dialect(separator, columns, has_returns, has_quotes, allows_blanks, skips,

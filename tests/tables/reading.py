@@ -120,12 +120,12 @@ class Piece(NamedTuple):
 # ---- cutting
 
 def ends_of(text: bytes, start: int, stop: int, end: int, has_quotes: bool) -> List[int]:
-    """The places of an ending byte that stand outside quotes."""
+    """The places of an ending byte that stand outside quotes, or where it is the quote, all."""
     found, is_within = [], False
     for place in range(start, stop):
         if text[place] == end and not is_within:
             found.append(place)
-        if has_quotes and text[place] == QUOTE:
+        if has_quotes and text[place] == QUOTE != end:
             is_within = not is_within
     return found
 
