@@ -1,11 +1,11 @@
 /* Answers questions about tables by jadvolni_parse_table, or by the call that skips bad rows, for tests/tables/compare.py.
  *
  * Standard input has questions: a struct question, a struct target and a width for each column, the mark and the text.
- * Each is asked with all that the call is handed right in front of a page that can't be touched, and with all right behind one; of the
- * whole text, and of its two parts for each cut. All ways have to get one answer. Standard output has 0 or the number of
- * the first that got another one, which then follows, as uint64_t; so status, column, rows and place; and, for each
- * column that is read, its numbers and its bits. Where bad rows are skipped, their number follows, what is known of them, and
- * where some rows are. */
+ * Each is asked with all that the call is handed right in front of a page that can't be touched, and with all right
+ * behind one; of the whole text, and of its two parts for each cut. All ways have to get one answer. Standard output has
+ * 0 or the number of the first that got another one, which then follows, as uint64_t; so status, column, rows and place;
+ * and, for each column that is read, its numbers, or where its texts stand, and its bits. Where bad rows are skipped,
+ * their number follows, what is known of them, and where some rows are. */
 #define _DEFAULT_SOURCE
 #include "jadvolni.h"
 
@@ -16,7 +16,7 @@
 
 enum { GUARD = 1 << 14, REGION = 1 << 16, MOST_COLUMNS = 8, MOST_ROWS = 255, NUMBERS_BEFORE = 119, BITS_BEFORE = 90 };
 enum { RETURNS = 1, QUOTES = 2, BLANKS = 4, SKIPS = 8, IS_LAST = 16, BY_WIDTHS = 32, RECORDS = 64, SKIPS_BAD = 128 };
-enum { STRUCTS_CHANGED = 1000, PLACES_ASKED = 5, KNOWN_BEFORE = 51 };
+enum { STRUCTS_CHANGED = 1000, PLACES_ASKED = 5, KNOWN_BEFORE = 51, TEXTS = 9 };
 
 typedef struct question {
     uint16_t len, first_cut, cuts;
@@ -35,8 +35,6 @@ typedef struct target {
     uint8_t point, places, takes_fewer;
     jadvolni_format format;
 } target;
-
-enum { TEXTS = 9 };
 
 static question asked;
 static target targets[MOST_COLUMNS];
@@ -115,10 +113,6 @@ static void set_column(jadvolni_table_column *column, int k, size_t row)
     column->takes_fewer = targets[k].takes_fewer;
     switch (targets[k].type) {
     case 0: return;
-    case TEXTS:
-        column->text.texts = numbers;
-        column->text.capacity = asked.room - row;
-        break;
         ARRAY(1, u8);
         ARRAY(2, u16);
         ARRAY(3, u32);
@@ -127,6 +121,9 @@ static void set_column(jadvolni_table_column *column, int k, size_t row)
         ARRAY(6, i16);
         ARRAY(7, i32);
         ARRAY(8, i64);
+    case TEXTS:
+        column->text.texts = numbers;
+        column->text.capacity = asked.room - row;
     }
     if (!targets[k].may_miss) return;
     column->present.size = size_of_bits(asked.room - row);
