@@ -7,7 +7,12 @@ fn doubled_quotes_are_folded() {
     let mut folded = *b".........";
     // SAFETY: both are as long as is said, and apart.
     let size = unsafe {
-        jadvolni_fold_quotes(text.as_ptr().cast(), text.len(), folded.as_mut_ptr().cast(), folded.len())
+        jadvolni_fold_quotes(
+            text.as_ptr().cast(),
+            text.len(),
+            folded.as_mut_ptr().cast(),
+            folded.len(),
+        )
     };
     assert_eq!((size, &folded), (8, b"5\" nails."));
 }

@@ -74,7 +74,7 @@ pub use table_read_error::TableReadError;
 #[cfg(feature = "std")]
 pub use table_reader::TableReader;
 pub use typed_literal::{parse_typed_literal, IntegerKind, Suffix, TypedLiteral};
-pub use within::{parse_within, parse_within_with_format, Excerpt, WithinError};
+pub use within::{parse_within, parse_within_with_format, WithinError};
 
 use jadvolni_sys as sys;
 
