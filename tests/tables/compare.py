@@ -77,8 +77,8 @@ def target_written(target: Optional[Target]) -> bytes:
     if fixed is None:
         return bytes([*head, 255, 0, 255, *bytes(c_format(target.form))])
     form = c_format(fixed.integer)
-    if fixed.integer.required_mantissa_digits:
-        form.mantissa_radix = 0  # which is 10, and a digit required
+    if fixed.integer.required_mantissa_digits and target.may_miss:
+        form.mantissa_radix = 0  # which is 10, and a digit required: half of them are written so
     point = 0 if fixed.point == ord(".") else fixed.point
     return bytes([*head, point, fixed.places, fixed.takes_fewer, *bytes(form)])
 
