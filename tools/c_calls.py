@@ -58,7 +58,8 @@ class CResult(ctypes.Structure):
 
 STATUSES: dict[int, str] = {
     int(number): name.title().replace("_", "")
-    for name, number in re.findall(r"JADVOLNI_(\w+) = (\d+)", DECLARED)
+    for name, number in re.findall(r"JADVOLNI_(\w+) = (\d+)",
+                                   DECLARED.split("} jadvolni_status;", maxsplit=1)[0])
 }
 NUMBERS = {name: number for number, name in STATUSES.items()}
 RESERVED = len(CFormat().reserved)

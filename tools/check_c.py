@@ -179,7 +179,7 @@ def messages(place: Place) -> str:
 def calls(place: Place) -> Iterator[Step]:
     """Each caller, by each of its compilers, with both libraries and under sanitizers."""
     c_callers = ("calls.c", "columns.c", "fixed.c", "random_columns.c", "skipping.c", "tables.c",
-                 "table_texts.c")
+                 "table_cells.c", "table_texts.c")
     for compiler, name in product(C_COMPILERS, c_callers):
         step, name = partial(call, place, f"tests/c/{name}", compiler), f"{name}, {compiler}"
         yield f"C99, {name}", partial(step, ["-std=c99", *OPTIMISED])

@@ -124,6 +124,44 @@ def of_columns() -> Iterator[Case]:
         yield Case("csv_column", b"1\n", "", 2, "usage: csv_column COLUMN < FILE", words)
 
 
+def of_exports() -> Iterator[Case]:
+    """The program that prints a bank's or a shop's export."""
+    program, bank, shop = "bank_export", (";,.",), (",.,",)
+    names = b"\xef\xbb\xbf\"Day\";Account;\"Pur\npose\";Amount\r\n"
+    rows = (b'"26.11.2026";"0012";"rent ""May"", 2nd";"-1.234,50"\r\n'
+            b"27.11.2026;DE 7;5 nails; 12,00 \n28.11.2026;;\"a\n\tb\";\n")
+    said = ('26.11.2026 | 0012 | rent "May", 2nd | -1234.50\n'
+            "27.11.2026 | DE 7 | 5 nails | 12.00\n28.11.2026 |  | a  b | no amount\n")
+    yield Case(program, names + b"\n" + rows + b"\r\n", f"{said}-1222.50\n", words=bank)
+    yield Case(program, b'day,order,item,amount\n26 Nov,7,"a, b","1,234.00"\n,8,c,""\n,9,d,-0.01',
+               "26 Nov | 7 | a, b | 1234.00\n | 8 | c | no amount\n | 9 | d | -0.01\n1233.99\n",
+               words=shop)
+    yield Case(program, names + rows + b"d;a;p;1,5\nd;a\n", f"{said}-1222.50\n", 1,
+               f"{program}: line 7, field 4: missing digit\n{program}: bad rows: 2", bank)
+    yield Case(program, names + b"d;a;p;1,005\n" * 3000 + rows, f"{said}-1222.50\n", 1,
+               f"{program}: line 3, field 4: invalid digit\n{program}: bad rows: 3000", bank)
+    yield Case(program, names + b"d;a;p;0,01\r\n" * 2500 + b"d;a;\"p;1,00\nd;a;p;1,00\n",
+               "d | a | p | 0.01\n" * 2500 + "25.00\n", 1,
+               f"{program}: line 2503, field 3: misplaced quote\n{program}: bad rows: 1", bank)
+    yield Case(program, names + b'd;a;"' + b"x" * 200000 + b'""";0,01',
+               "d | a | " + "x" * 200000 + '" | 0.01\n0.01\n', words=bank)
+    yield Case(program, names + b"d;a;p;92.233.720.368.547.758,07\n" * 2,
+               "d | a | p | 92233720368547758.07\n", 1, f"{program}: {SUM_LEAVES}", bank)
+    yield Case(program, names + b"d;a;p;-92.233.720.368.547.758,08",
+               "d | a | p | -92233720368547758.08\n-92233720368547758.08\n", words=bank)
+    for given in (b"", b"\xef\xbb\xbf", names, names[:-2]):
+        yield Case(program, given, "0.00\n", words=bank)
+    yield from faults(program, {names + b"d;a\0;p;1,00\n": "byte 39: a NUL"}, bank)
+    point = "the point has to be no digit, no sign, and not the separator of the integer part"
+    separator = "the separator has to be ASCII, and no sign and no digit of the radix"
+    for marks, fault in ((";,,", point), (";5.", point), (";,5", separator)):
+        yield Case(program, names, "", 2, f"{program}: {marks}: {fault}", (marks,))
+    for words in ((), ("",), (";,",), (";,.;",), (";,.", "x")):
+        yield Case(program, names, "", 2, f"{program}: usage: bank_export MARKS < FILE", words)
+    yield Case(program, b"", "", 2, f"{program}: {IS_FOLDER}", bank, FOLDER)
+    yield Case(program, names + rows, "", 2, f"{program}: {IS_FULL}", bank, FULL)
+
+
 def by_name() -> Iterator[Case]:
     """The program that adds up a column by its name."""
     program, words = "named_column", ("cents",)
@@ -199,7 +237,7 @@ def of_words() -> Iterator[Case]:
         yield Case("colour", b"", "30 144 255\n", 1, told, ("1e90FF", word))
 
 
-CASES = [*of_columns(), *by_name(), *with_bad_rows(), *of_words()]
+CASES = [*of_columns(), *of_exports(), *by_name(), *with_bad_rows(), *of_words()]
 
 
 def check(place: Place, case: Case, program: str) -> None:

@@ -57,19 +57,43 @@ static void columns(void)
     CHECK(is(said("1", &table, 4, column), "reserved bytes and bits of the format"));
 }
 
+/* Columns of fixed-point numbers and of texts. */
+static void amounts_and_texts(void)
+{
+    const jadvolni_table table = {.separator = ','};
+    jadvolni_cell_text found[4];
+    jadvolni_table_column amounts = {.places = 39, .i64 = {wide, 4}}, texts = {.text = {found, 4}};
+    CHECK(is(said("1", &table, 4, amounts), "at most 38 places"));
+    amounts.point = '-';
+    CHECK(is(said("1", &table, 4, amounts), "the point has to be no digit, no sign"));
+    amounts.format.base_prefix = 'x';
+    CHECK(is(said("1", &table, 4, amounts), "no prefix, no suffix"));
+    amounts.format.mantissa_radix = 16;
+    CHECK(is(said("1", &table, 4, amounts), "have to have the radix 10"));
+    amounts.reserved[0] = 1;
+    CHECK(is(said("1", &table, 4, amounts), "reserved bytes and bits"));
+    CHECK(is(said("1", &table, 4, texts), "no fault"));
+    CHECK(is(said("1", &table, 5, texts), "array has room for fewer rows"));
+    texts.present.bytes = bits, texts.present.size = 1;
+    CHECK(is(said("1", &table, 4, texts), "no fault"));
+    texts.text.capacity = 9; /* which nothing is written to, as the bits are refused */
+    CHECK(is(said("1", &table, 9, texts), "bits have room for fewer rows"));
+}
+
 /* The first array that has room is the column's, whatever its type. */
 static void each_type(void)
 {
     const jadvolni_table table = {.separator = ','};
     size_t type;
-    for (type = 0; type < 8; type++) {
+    for (type = 0; type < 9; type++) {
         jadvolni_table_column column = {.format = JADVOLNI_FORMAT_STANDARD};
         size_t *rooms[] = {&column.i64.capacity, &column.u64.capacity, &column.i32.capacity, &column.u32.capacity,
-                           &column.i16.capacity, &column.u16.capacity, &column.i8.capacity, &column.u8.capacity};
+                           &column.i16.capacity, &column.u16.capacity, &column.i8.capacity, &column.u8.capacity,
+                           &column.text.capacity};
         *rooms[type] = 3;
         CHECK(is(said("", &table, 4, column), "array has room for fewer rows"));
-        *rooms[7] = 4; /* a later one */
-        CHECK(is(said("", &table, 4, column), type == 7 ? "no fault" : "array has room for fewer rows"));
+        *rooms[8] = 4; /* a later one */
+        CHECK(is(said("", &table, 4, column), type == 8 ? "no fault" : "array has room for fewer rows"));
     }
 }
 
@@ -77,6 +101,7 @@ int main(void)
 {
     tables();
     columns();
+    amounts_and_texts();
     each_type();
     return checked();
 }

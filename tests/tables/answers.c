@@ -1,11 +1,11 @@
 /* Answers questions about tables by jadvolni_parse_table, or by the call that skips bad rows, for tests/tables/compare.py.
  *
  * Standard input has questions: a struct question, a struct target and a width for each column, the mark and the text.
- * Each is asked with all that the call is handed right in front of a page that can't be touched, and with all right behind one; of the
- * whole text, and of its two parts for each cut. All ways have to get one answer. Standard output has 0 or the number of
- * the first that got another one, which then follows, as uint64_t; so status, column, rows and place; and, for each
- * column that is read, its numbers and its bits. Where bad rows are skipped, their number follows, what is known of them, and
- * where some rows are. */
+ * Each is asked with all that the call is handed right in front of a page that can't be touched, and with all right
+ * behind one; of the whole text, and of its two parts for each cut. All ways have to get one answer. Standard output has
+ * 0 or the number of the first that got another one, which then follows, as uint64_t; so status, column, rows and place;
+ * and, for each column that is read, its numbers, or where its texts stand, and its bits. Where bad rows are skipped,
+ * their number follows, what is known of them, and where some rows are. */
 #define _DEFAULT_SOURCE
 #include "jadvolni.h"
 
@@ -16,7 +16,7 @@
 
 enum { GUARD = 1 << 14, REGION = 1 << 16, MOST_COLUMNS = 8, MOST_ROWS = 255, NUMBERS_BEFORE = 119, BITS_BEFORE = 90 };
 enum { RETURNS = 1, QUOTES = 2, BLANKS = 4, SKIPS = 8, IS_LAST = 16, BY_WIDTHS = 32, RECORDS = 64, SKIPS_BAD = 128 };
-enum { STRUCTS_CHANGED = 1000, PLACES_ASKED = 5, KNOWN_BEFORE = 51 };
+enum { STRUCTS_CHANGED = 1000, PLACES_ASKED = 5, KNOWN_BEFORE = 51, TEXTS = 9 };
 
 typedef struct question {
     uint16_t len, first_cut, cuts;
@@ -31,7 +31,8 @@ typedef struct answer {
 } answer;
 
 typedef struct target {
-    uint8_t type, may_miss; /* 0, or from 1 on: u8, u16, u32, u64, i8, i16, i32, i64 */
+    uint8_t type, may_miss; /* 0, or from 1 on: u8, u16, u32, u64, i8, i16, i32, i64, and TEXTS */
+    uint8_t point, places, takes_fewer;
     jadvolni_format format;
 } target;
 
@@ -71,6 +72,7 @@ static void must_read(void *to, size_t size)
 
 static size_t size_of_number(int column)
 {
+    if (targets[column].type == TEXTS) return sizeof(jadvolni_cell_text);
     return targets[column].type ? (size_t)1 << (targets[column].type - 1) % 4 : 0;
 }
 
@@ -106,6 +108,9 @@ static void set_column(jadvolni_table_column *column, int k, size_t row)
     size_t size = size_of_number(k);
     void *numbers = (char *)within(NUMBERS + k, size * asked.room) + size * row;
     column->format = targets[k].format;
+    column->point = targets[k].point;
+    column->places = targets[k].places;
+    column->takes_fewer = targets[k].takes_fewer;
     switch (targets[k].type) {
     case 0: return;
         ARRAY(1, u8);
@@ -116,6 +121,9 @@ static void set_column(jadvolni_table_column *column, int k, size_t row)
         ARRAY(6, i16);
         ARRAY(7, i32);
         ARRAY(8, i64);
+    case TEXTS:
+        column->text.texts = numbers;
+        column->text.capacity = asked.room - row;
     }
     if (!targets[k].may_miss) return;
     column->present.size = size_of_bits(asked.room - row);
@@ -202,12 +210,39 @@ static void move_bad_rows(answer first, answer rest)
     }
 }
 
+/* The texts of a column from a row on, as before any call. */
+static void clear_texts(int column, size_t row)
+{
+    jadvolni_cell_text *texts = within(NUMBERS + column, asked.room * sizeof *texts);
+    memset(texts + row, NUMBERS_BEFORE, (asked.room - row) * sizeof *texts);
+}
+
+/* The texts of a column from a row on, which the second part told, counted in the text. Where it told none, the one
+ * of the first part stands. A missing one, which has no bit, stays at 0. */
+static void move_texts(int column, size_t row, size_t by, const jadvolni_cell_text *before)
+{
+    jadvolni_cell_text *texts = within(NUMBERS + column, asked.room * sizeof *texts);
+    for (; row < asked.room; row++) {
+        bool is_there = !targets[column].may_miss || bits[column][row / 8] >> row % 8 & 1;
+        if (texts[row].has_doubled_quotes == NUMBERS_BEFORE) texts[row] = before[row];
+        else if (is_there) texts[row].start += by;
+    }
+}
+
 /* Reads a part of the text that isn't the last, and then what it left with the bytes that follow. */
 static answer read_in_parts(size_t cut, bool is_last)
 {
+    static jadvolni_cell_text before[MOST_COLUMNS][UINT8_MAX];
     answer first = read_rows(0, cut, false, 0, 0), rest;
     if (first.status != JADVOLNI_OK || first.rows > asked.rows || first.place > cut) return first;
+    for (int k = 0; k < asked.columns; k++) {
+        if (targets[k].type != TEXTS) continue;
+        memcpy(before[k], within(NUMBERS + k, asked.room * sizeof **before), asked.room * sizeof **before);
+        clear_texts(k, first.rows);
+    }
     rest = read_rows(first.place, asked.len, is_last, first.rows, first.bad_rows);
+    for (int k = 0; k < asked.columns; k++)
+        if (targets[k].type == TEXTS) move_texts(k, first.rows, first.place, before[k]);
     move_bad_rows(first, rest);
     rest.rows += first.rows;
     rest.bad_rows += first.bad_rows;
@@ -241,15 +276,27 @@ static char *write_bad_rows(char *to, answer r)
     return end;
 }
 
+/* Writes the numbers of a column, or where its texts stand, each flag as wide as a place: behind it. */
+static char *write_values(char *to, int column)
+{
+    size_t size = size_of_number(column) * asked.room;
+    const jadvolni_cell_text *texts = within(NUMBERS + column, size);
+    if (targets[column].type != TEXTS) return (char *)memcpy(to, texts, size) + size;
+    for (size_t row = 0; row < asked.room; row++) {
+        uint64_t said[] = {texts[row].start, texts[row].size, texts[row].has_doubled_quotes};
+        to = (char *)memcpy(to, said, sizeof said) + sizeof said;
+    }
+    return to;
+}
+
 /* Writes what was answered: how many bytes that is. */
 static size_t write_answer(char *to, answer r)
 {
     uint64_t said[] = {0, r.status, r.column, r.rows, r.place};
     char *end = (char *)memcpy(to, said, sizeof said) + sizeof said;
     for (int k = 0; k < asked.columns; k++) {
-        size_t size = size_of_number(k) * asked.room, more = targets[k].may_miss ? size_of_bits(asked.room) : 0;
-        end = (char *)memcpy(end, within(NUMBERS + k, size), size) + size;
-        end = (char *)memcpy(end, bits[k], more) + more;
+        size_t more = targets[k].may_miss ? size_of_bits(asked.room) : 0;
+        end = (char *)memcpy(write_values(end, k), bits[k], more) + more;
     }
     if (asked.flags & SKIPS_BAD) end = write_bad_rows(end, r);
     return (size_t)(end - to);

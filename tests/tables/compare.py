@@ -5,9 +5,9 @@
     tests/tables/compare.py --all [--longest N]        all short texts, under each setting
 
 Answers, arrays and bits have to be those of reading.py, and the arrays and bits as before where
-nothing was put. Each table is asked for twice: up to its first fault, and with bad rows skipped, and
-then also where its rows are. answers.c asks the library, build/libjadvolni.a, in several ways, and all of them
-have to get one answer. It prints what differs, and ends with status 1 then.
+nothing was put. Each table is asked for twice: up to its first fault, and with bad rows skipped,
+and then also where its rows are. answers.c asks the library, build/libjadvolni.a, in several ways,
+and all of them have to get one answer. It prints what differs, and ends with status 1 then.
 """
 from __future__ import annotations
 
@@ -25,7 +25,7 @@ from typing import List, Optional, Sequence, Tuple
 
 import reading
 from questions import KINDS, Question, random_questions, short_questions
-from reading import TOP, Bad, Read, Target
+from reading import TEXTS, TOP, Bad, CellValue, Read, Target
 
 sys.path.insert(0, os.path.join(TOP, "tools"))
 
@@ -41,7 +41,11 @@ QUESTION, ANSWER = struct.Struct("=HHHBBBBBBBB"), struct.Struct("=5Q")
 BAD_ROW, ROW_PLACE = struct.Struct("=I20x5Q"), struct.Struct("=3Q")
 # Of how many rows it is asked where they are.
 PLACES_ASKED = 5
-CODES = dict(zip(KINDS, "BHIQbhiq"))
+CODES = {**dict(zip(KINDS, "BHIQbhiq")), TEXTS: "QQQ"}
+# What a text has before: its flag is one byte, and the program widens it.
+TEXT_BEFORE = 2 * 8 * NUMBERS_BEFORE + NUMBERS_BEFORE + bytes(7)
+# In the order of their numbers in answers.c, where 0 is a column that isn't read.
+TARGET_TYPES = (b"", *KINDS, TEXTS)
 # A row and a column.
 Place = Tuple[int, int]
 
@@ -59,10 +63,24 @@ def compiled(folder: str) -> str:
 
 @functools.lru_cache(maxsize=None)
 def target_written(target: Optional[Target]) -> bytes:
-    """A target, as the program reads it. Of a column that isn't read, only the radix is 0."""
+    """A target, as the program reads it. What isn't looked at has bytes that would be refused.
+
+    Of a column that isn't read, only the radix is looked at, of texts nothing, and of integers
+    neither the point nor the flag.
+    """
     if target is None:
-        return bytes(3) + b"\xff" * (ctypes.sizeof(CFormat) - 1)
-    return bytes([1 + KINDS.index(target.type), target.may_miss, *bytes(c_format(target.form))])
+        return bytes([0, 0, 255, 255, 255, 0]) + b"\xff" * (ctypes.sizeof(CFormat) - 1)
+    head = [TARGET_TYPES.index(target.type), target.may_miss]
+    if target.keeps_texts():
+        return bytes(head) + b"\xff" * (3 + ctypes.sizeof(CFormat))
+    fixed = target.fixed
+    if fixed is None:
+        return bytes([*head, 255, 0, 255, *bytes(c_format(target.form))])
+    form = c_format(fixed.integer)
+    if fixed.integer.required_mantissa_digits and target.may_miss:
+        form.mantissa_radix = 0  # which is 10, and a digit required: half of them are written so
+    point = 0 if fixed.point == ord(".") else fixed.point
+    return bytes([*head, point, fixed.places, fixed.takes_fewer, *bytes(form)])
 
 
 def written(question: Question) -> bytes:
@@ -86,18 +104,19 @@ def answers(program: str, questions: Sequence[Question]) -> bytes:
 
 # ---- the two beside each other
 
-def put(said: bytearray, start: int, question: Question, place: Place,
-        number: Optional[int]) -> None:
-    """Puts a number and its bit where a column's array and bits start."""
+def put(said: bytearray, start: int, question: Question, place: Place, value: CellValue) -> None:
+    """Puts a value and its bit where a column's array and bits start."""
     row, column = place
     target = question.targets[column]
     assert target is not None
     code = "=" + CODES[target.type]
     size = struct.calcsize(code)
-    struct.pack_into(code, said, start + row * size, number or 0)
+    missing = len(CODES[target.type]) * (0,)
+    words = missing if value is None else value if isinstance(value, tuple) else (value,)
+    struct.pack_into(code, said, start + row * size, *words)
     if target.may_miss:
         byte, mask = start + question.room * size + row // 8, 1 << row % 8
-        said[byte] = said[byte] & ~mask | (0 if number is None else mask)
+        said[byte] = said[byte] & ~mask | (0 if value is None else mask)
 
 
 def with_numbers(said: bytearray, question: Question, numbers: reading.Numbers) -> bytearray:
@@ -106,7 +125,8 @@ def with_numbers(said: bytearray, question: Question, numbers: reading.Numbers) 
     for target in question.targets:
         starts.append(len(said))
         if target is not None:
-            said += NUMBERS_BEFORE * (question.room * struct.calcsize("=" + CODES[target.type]))
+            size = struct.calcsize("=" + CODES[target.type])
+            said += question.room * (TEXT_BEFORE if target.keeps_texts() else NUMBERS_BEFORE * size)
             said += BITS_BEFORE * ((question.room + 7) // 8 if target.may_miss else 0)
     for place, number in numbers.items():
         put(said, starts[place[1]], question, place, number)

@@ -2,7 +2,8 @@
 
 Written from crates/lexical_tables/README.md and the words of include/jadvolni.h, and not from the
 code or the definitions in specs/, so that a slip there isn't repeated here. It goes through a text
-byte by byte, and cuts all rows before it judges the first. A number is read by tools/reference.py.
+byte by byte, and cuts all rows before it judges the first. An integer is read by
+tools/reference.py, and a fixed-point number by tests/fixed/slow_fixed.py.
 """
 from __future__ import annotations
 
@@ -13,12 +14,16 @@ from dataclasses import dataclass
 from typing import Dict, Iterator, List, NamedTuple, Optional, Sequence, Tuple, Union
 
 TOP = os.path.join(os.path.dirname(os.path.abspath(__file__)), "..", "..")
+sys.path.insert(0, os.path.join(TOP, "tests", "fixed"))
 sys.path.insert(0, os.path.join(TOP, "tools"))
 
+import slow_fixed  # noqa: E402
 from reference import TYPES, Fault as NumberFault, Format, Value, parse  # noqa: E402
 
 LINE_FEED, RETURN, QUOTE = 10, 13, 34
 BLANKS = b" \t"
+# The type of a column whose cells are read as texts.
+TEXTS = b"text"
 
 
 class Dialect(NamedTuple):
@@ -43,11 +48,17 @@ class Dialect(NamedTuple):
 
 @dataclass(frozen=True)
 class Target:
-    """What is read of a column: numbers of a type, under a format; and whether they may miss."""
+    """What is read of a column: texts, or numbers of a type, which are integers under a format or
+    fixed-point numbers; and whether they may miss."""
 
     type: bytes = b"u8"
     form: Format = Format()
     may_miss: bool = False
+    fixed: Optional[slow_fixed.Fixed] = None
+
+    def keeps_texts(self) -> bool:
+        """Whether cells are read as texts."""
+        return self.type == TEXTS
 
 
 class Read(NamedTuple):
@@ -66,8 +77,18 @@ class Wrong(NamedTuple):
     place: int
 
 
-# The number at each row and column that was read; None where one misses.
-Numbers = Dict[Tuple[int, int], Optional[int]]
+class Text(NamedTuple):
+    """Where a text stands."""
+
+    start: int
+    size: int
+    has_doubled_quotes: bool
+
+
+# What a cell stands for; None where it misses.
+CellValue = Union[int, Text, None]
+# The value at each row and column that was read.
+Numbers = Dict[Tuple[int, int], CellValue]
 
 
 class Bad(NamedTuple):
@@ -99,12 +120,12 @@ class Piece(NamedTuple):
 # ---- cutting
 
 def ends_of(text: bytes, start: int, stop: int, end: int, has_quotes: bool) -> List[int]:
-    """The places of an ending byte that stand outside quotes."""
+    """The places of an ending byte that stand outside quotes, or where it is the quote, all."""
     found, is_within = [], False
     for place in range(start, stop):
         if text[place] == end and not is_within:
             found.append(place)
-        if has_quotes and text[place] == QUOTE:
+        if has_quotes and text[place] == QUOTE != end:
             is_within = not is_within
     return found
 
@@ -157,11 +178,11 @@ def cells_of(text: bytes, row: Piece, dialect: Dialect) -> List[Piece]:
 
 # ---- a cell
 
-def misplaced_quote(cell: bytes, is_read: bool) -> Optional[int]:
+def misplaced_quote(cell: bytes, is_number: bool) -> Optional[int]:
     """The place of the quote that breaks the rules of quotes."""
     if cell[:1] != b'"':
         return cell.index(b'"') if b'"' in cell else None
-    if is_read:
+    if is_number:
         second = cell.find(b'"', 1)
         return 0 if second < 0 else None if second + 1 == len(cell) else second
     place = 1
@@ -175,14 +196,14 @@ def misplaced_quote(cell: bytes, is_read: bool) -> Optional[int]:
     return 0
 
 
-def content_of(text: bytes, cell: Piece, dialect: Dialect) -> Piece:
-    """What stands in the cell, without its quotes and the blanks around."""
+def content_of(text: bytes, cell: Piece, dialect: Dialect, allows_blanks: bool) -> Piece:
+    """What stands in the cell, without its quotes, and without blanks where they are allowed."""
     start, stop = cell
     if dialect.has_quotes and text[start:stop].startswith(b'"'):
         start, stop = start + 1, stop - 1
-    while dialect.allows_blanks and start < stop and text[start] in BLANKS:
+    while allows_blanks and start < stop and text[start] in BLANKS:
         start += 1
-    while dialect.allows_blanks and start < stop and text[stop - 1] in BLANKS:
+    while allows_blanks and start < stop and text[stop - 1] in BLANKS:
         stop -= 1
     return Piece(start, stop)
 
@@ -193,27 +214,35 @@ Fault = Tuple[str, int]
 @functools.lru_cache(maxsize=1 << 16)
 def number_in(target: Target, inner: bytes) -> Union[Value, NumberFault]:
     """The number of a column that is all of a text, or its fault. Answers are kept: most repeat."""
+    if target.fixed is not None:
+        return slow_fixed.read(target.fixed, TYPES[target.type], inner, False)
     return parse(target.form, TYPES[target.type], inner, False)
 
 
-def number_of(text: bytes, cell: Piece, dialect: Dialect,
-              target: Target) -> Union[Fault, Optional[int]]:
-    """The number in a cell, whose quotes are well: or its fault, or None where it misses."""
-    content = content_of(text, cell, dialect)
+def value_of(text: bytes, cell: Piece, dialect: Dialect, target: Target) -> Union[Fault, CellValue]:
+    """What a cell stands for, whose quotes are well: or its fault, or None where it misses.
+
+    Blanks are bytes of a text as any others.
+    """
+    content = content_of(text, cell, dialect, dialect.allows_blanks and not target.keeps_texts())
     inner = text[content.start:content.stop]
     if target.may_miss and inner == dialect.missing:
         return None
+    if target.keeps_texts():
+        return Text(content.start, len(inner), dialect.has_quotes and QUOTE in inner)
     answer = number_in(target, inner)
     if isinstance(answer, Value):
         return answer.value
     return answer.name, content.start + (answer.place or 0)
 
 
-def quote_fault(text: bytes, cell: Piece, dialect: Dialect, is_read: bool) -> Optional[Fault]:
-    """The fault of a cell's quotes. In a cell that is read no quote is doubled."""
+def quote_fault(text: bytes, cell: Piece, dialect: Dialect,
+                target: Optional[Target]) -> Optional[Fault]:
+    """The fault of a cell's quotes. In a number no quote is doubled."""
     if not dialect.has_quotes:
         return None
-    place = misplaced_quote(text[cell.start:cell.stop], is_read)
+    is_number = target is not None and not target.keeps_texts()
+    place = misplaced_quote(text[cell.start:cell.stop], is_number)
     return None if place is None else ("MisplacedQuote", cell.start + place)
 
 
@@ -231,20 +260,27 @@ def row_fault(text: bytes, row: Piece, cells: Sequence[Piece], kept: Piece,
     return None
 
 
+def cell_answer(text: bytes, cell: Piece, dialect: Dialect,
+                target: Optional[Target]) -> Union[Fault, CellValue]:
+    """What a cell stands for, or its fault. None is also that of a column that isn't read."""
+    fault = quote_fault(text, cell, dialect, target)
+    if fault is not None or target is None:
+        return fault
+    return value_of(text, cell, dialect, target)
+
+
 def read_row(text: bytes, row: Piece, dialect: Dialect, targets: Sequence[Optional[Target]],
-             put: Dict[int, Optional[int]]) -> Optional[Tuple[int, str, int]]:
-    """Reads a row: its numbers by their columns, and its first fault."""
+             put: Dict[int, CellValue]) -> Optional[Tuple[int, str, int]]:
+    """Reads a row: its values by their columns, and its first fault."""
     kept = without_return(text, row, dialect)
     cells = cells_of(text, kept, dialect)
     for column, cell in enumerate(cells[:dialect.columns]):
         target = targets[column] if column < len(targets) else None
-        fault: Union[Fault, Optional[int]] = quote_fault(text, cell, dialect, target is not None)
-        if fault is None and target is not None:
-            fault = number_of(text, cell, dialect, target)
-            if not isinstance(fault, tuple):
-                put[column] = fault
-        if isinstance(fault, tuple):
-            return (column, *fault)
+        answer = cell_answer(text, cell, dialect, target)
+        if isinstance(answer, tuple) and not isinstance(answer, Text):
+            return (column, *answer)
+        if target is not None:
+            put[column] = answer
     return row_fault(text, row, cells, kept, dialect)
 
 
@@ -261,7 +297,7 @@ def read(text: bytes, dialect: Dialect, targets: Sequence[Optional[Target]], roo
     numbers: Numbers = {}
     rows = list(counted_rows(text, dialect))
     for number, row in enumerate(rows[:room]):
-        put: Dict[int, Optional[int]] = {}
+        put: Dict[int, CellValue] = {}
         fault = read_row(text, row, dialect, targets, put)
         numbers.update({(number, column): value for column, value in put.items()})
         if fault is not None:
@@ -296,7 +332,7 @@ def read_skipping(text: bytes, is_last: bool, dialect: Dialect,
                   targets: Sequence[Optional[Target]], room: int) -> Tuple[Skipped, Numbers]:
     """So many right rows at most, and the bad ones before the last of them.
 
-    Numbers are told by their places in the arrays. Those of a bad row stand where the next one is put.
+    Values are told by their places in the arrays. Those of a bad row stand where the next is put.
     """
     text = text if is_last else text[:whole_rows(text, dialect)]
     numbers: Numbers = {}
@@ -308,7 +344,7 @@ def read_skipping(text: bytes, is_last: bool, dialect: Dialect,
         if count == room:
             stop = row.start
             break
-        put: Dict[int, Optional[int]] = {}
+        put: Dict[int, CellValue] = {}
         fault = read_row(text, row, dialect, targets, put)
         numbers.update({(count, column): value for column, value in put.items()})
         if fault is None:
