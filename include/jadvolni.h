@@ -1117,18 +1117,18 @@ jadvolni_skipping_result jadvolni_parse_table_skipping(
 /* ---- quotes ---- */
 
 /*
- * A text with each doubled quote as one, and the answer is how many bytes that has: at most `len`. It is
- * for what stands within the quotes of a cell, which jadvolni_parse_table leaves as it is.
+ * A text with each doubled quote as one, and the answer is how many bytes that has: at most `len`. It
+ * is for what stands within the quotes of a cell.
  *
  *     size_t size = jadvolni_fold_quotes(text, len, folded, sizeof folded);
  *     if (size <= sizeof folded) fwrite(folded, 1, size, stdout);
  *
- * Where the answer is more than `capacity`, nothing was written, and a call with so many bytes writes all.
- * What lies behind the bytes that are written is as it was. A quote that isn't doubled stays, so of three in
- * a row two are left. The text 5"" nails gives 5" nails, and 8.
+ * Where the answer is more than `capacity`, nothing was written, and a call with so many bytes writes
+ * all. What lies behind the bytes that are written is as it was. A quote that isn't doubled stays, so of
+ * three in a row two are left. The text 5"" nails gives 5" nails, and 8.
  *
- * `folded` points to `capacity` bytes that may be written, and may be NULL where that is 0. They don't lie
- * in the text.
+ * `folded` points to `capacity` bytes that may be written, and may be NULL where that is 0. They don't
+ * lie in the text.
  */
 size_t jadvolni_fold_quotes(const char *text, size_t len, char *folded, size_t capacity)
     JADVOLNI_TEXT_ JADVOLNI_WRITES_(3, 4);

@@ -7,6 +7,9 @@
 //
 //     auto literal = jadvolni::parse_literal("0xFFull;", jadvolni::formats::c); // 255 and "ull"
 //
+//     static constexpr jadvolni::suffix_entry suffixes[] = {jadvolni::suffix_of<std::uint8_t>("u8")};
+//     auto typed = jadvolni::parse_typed_literal("300u8", jadvolni::formats::rust, suffixes); // overflow
+//
 //     auto port = jadvolni::parse_within<std::uint16_t>(text, 1, 65535); // or what it isn't
 //
 //     auto [ptr, ec] = jadvolni::from_chars(first, last, value); // as std::from_chars
@@ -392,12 +395,12 @@ struct literal_parts {
 }
 
 // An entry of a table of suffixes: the suffix and the type that it names, which suffix_of makes.
-using suffix = jadvolni_suffix;
+using suffix_entry = jadvolni_suffix;
 
 // The entry of a suffix that names the integer type T: suffix_of<std::uint8_t>("u8"). It keeps the
 // suffix as a pointer, so that the bytes have to outlive it, as those of a string constant do.
 template <class T>
-constexpr suffix suffix_of(std::string_view text) noexcept
+constexpr suffix_entry suffix_of(std::string_view text) noexcept
 {
     return {text.data(), text.size(), detail::type_code<T>(), 0};
 }

@@ -61,8 +61,7 @@ def main() -> None:
             for block in copied(file):
                 write(block)
     except jadvolni.ParseError as error:
-        cell = f"line {error.row + 1}, cell {error.column + 1}, byte {error.place}"
-        sys.exit(f"{path}: {cell}: {error.kind}")
+        sys.exit(str(error))
     except OSError as error:
         sys.exit(f"{path}: {error.strerror}")
     except ValueError as error:

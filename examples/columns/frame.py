@@ -21,8 +21,7 @@ def main() -> None:
     try:
         frame = jadvolni.read_table(path, CELLS, ";").to_pandas()
     except jadvolni.ParseError as error:
-        cell = f"line {error.row + 1}, cell {error.column + 1}, byte {error.place}"
-        sys.exit(f"{path}: {cell}: {error.kind}")
+        sys.exit(str(error))
     except OSError as error:
         sys.exit(f"{path}: {error.strerror}")
     cents = frame["cents"]

@@ -315,7 +315,7 @@ static void literals()
 
 static void typed_literals()
 {
-    static constexpr jadvolni::suffix table[] = {
+    static constexpr jadvolni::suffix_entry table[] = {
         jadvolni::suffix_of<int>(""), jadvolni::suffix_of<unsigned char>("u8"), jadvolni::suffix_of<long long>("ll"),
         jadvolni::suffix_of<unsigned short>("u16"), jadvolni::suffix_of<std::uint64_t>("ull")};
     static_assert(table[0].type == JADVOLNI_TYPE_I32 && table[1].type == JADVOLNI_TYPE_U8);
@@ -329,7 +329,7 @@ static void typed_literals()
     auto read = jadvolni::parse_typed_literal("0xFFull;", jadvolni::formats::c, table);
     CHECK(read && read->value.low == 255 && read->value.high == 0 && read->suffix == "ull" && read->entry == 4);
     CHECK(read.place() == 7);
-    const std::vector<jadvolni::suffix> entries(std::begin(table), std::end(table));
+    const std::vector<jadvolni::suffix_entry> entries(std::begin(table), std::end(table));
     auto bare = jadvolni::parse_typed_literal("12 ", jadvolni::formats::c, entries);
     CHECK(bare && bare->value.low == 12 && bare->suffix.empty() && bare->entry == 0 && bare.place() == 2);
     auto refused = [](std::string_view text, status wanted, std::size_t place) {
@@ -341,7 +341,7 @@ static void typed_literals()
     CHECK(refused("0b102", status::invalid_digit, 4));
     CHECK(refused("12abc", status::unknown_suffix, 2));
     CHECK(refused("-1", status::empty, 0));
-    const jadvolni::suffix untyped[] = {{}};
+    const jadvolni::suffix_entry untyped[] = {{}};
     auto none = jadvolni::parse_typed_literal("1", jadvolni::formats::c, untyped);
     CHECK(!none && none.status() == status::invalid_suffix_table && none.place() == 0);
 }

@@ -127,7 +127,7 @@ def wants_return(text: bytes, row: Piece, dialect: Dialect) -> bool:
 
 
 def without_return(text: bytes, row: Piece, dialect: Dialect) -> Piece:
-    """The row's cells: without the return before its line feed, where one is asked for or allowed."""
+    """The row's cells: without the return before its line feed, where one may stand there."""
     may_stand = dialect.allows_returns and not dialect.is_records and row.stop < len(text)
     if not may_stand and not wants_return(text, row, dialect):
         return row

@@ -5,10 +5,9 @@
 
 /* ---- one number ---- */
 
-/* A text with the type and the format that it is read by. */
+/* A text, and how its number is written. */
 typedef struct question {
-    const number_type *type;
-    jadvolni_format format;
+    notation written;
     borrowed_text text;
 } question;
 
@@ -20,8 +19,7 @@ static int question_of(PyObject *module, const char *call, PyObject *const *args
     static const char *const names[] = {"text", "type", "format", "min", "max"};
     if (arguments(call, args, count, keywords, names, 3, most, found) < 0)
         return -1;
-    asked->type = type_of(found[1]);
-    if (!asked->type || format_of(PyModule_GetState(module), found[2], &asked->format) < 0)
+    if (notation_of(PyModule_GetState(module), found[1], found[2], &asked->written) < 0)
         return -1;
     return borrow("text", found[0], &asked->text);
 }
@@ -34,11 +32,11 @@ static PyObject *bounded(const core_state *state, const question *asked, PyObjec
     PyObject *result = NULL;
     if (bounds_of(given[0], given[1], &between) == 0) {
         const borrowed_text *text = &asked->text;
-        jadvolni_result answer =
-            asked->type->whole(text->bytes, text->len, &asked->format, &value);
+        const notation *written = &asked->written;
+        jadvolni_result answer = whole_number(text, written->type, written, &value);
         if (answer.status == JADVOLNI_OK)
-            result = within(state, asked->type->number(&value), &between);
-        else if (!raise_beyond(state, answer, text, &asked->format, &between))
+            result = within(state, written->type->number(&value), &between);
+        else if (!raise_beyond(state, answer, text, written, &between))
             raise_fault(state, answer, text->bytes, text->len, NULL);
     }
     let_go_bounds(&between);
@@ -53,17 +51,17 @@ static PyObject *parse(PyObject *module, PyObject *const *args, Py_ssize_t count
     PyObject *found[5], *result = NULL;
     if (question_of(module, "parse", args, count, keywords, 5, found, &asked) < 0)
         return NULL;
-    const char *text = asked.text.bytes;
     if (found[3] || found[4]) {
         result = bounded(PyModule_GetState(module), &asked, found + 3);
         give_back(&asked.text);
         return result;
     }
-    jadvolni_result answer = asked.type->whole(text, asked.text.len, &asked.format, &value);
+    const number_type *type = asked.written.type;
+    jadvolni_result answer = whole_number(&asked.text, type, &asked.written, &value);
     if (answer.status == JADVOLNI_OK)
-        result = asked.type->number(&value);
+        result = type->number(&value);
     else
-        raise_fault(PyModule_GetState(module), answer, text, asked.text.len, NULL);
+        raise_fault(PyModule_GetState(module), answer, asked.text.bytes, asked.text.len, NULL);
     give_back(&asked.text);
     return result;
 }
@@ -77,17 +75,15 @@ static PyObject *pair(PyObject *read, PyObject *place)
     return result;
 }
 
-/* What a call on a front answers: the number and the place. */
-static PyObject *answer_of(PyObject *module, question *asked, parse_call *call)
+/* What a call on a front has answered: the number and the place. */
+static PyObject *answer_of(PyObject *module, question *asked, jadvolni_result answer,
+                           const number *value)
 {
-    number value;
     PyObject *result = NULL;
-    const char *text = asked->text.bytes;
-    jadvolni_result answer = call(text, asked->text.len, &asked->format, &value);
     if (answer.status == JADVOLNI_OK)
-        result = pair(asked->type->number(&value), PyLong_FromSize_t(answer.place));
+        result = pair(asked->written.type->number(value), PyLong_FromSize_t(answer.place));
     else
-        raise_fault(PyModule_GetState(module), answer, text, asked->text.len, NULL);
+        raise_fault(PyModule_GetState(module), answer, asked->text.bytes, asked->text.len, NULL);
     give_back(&asked->text);
     return result;
 }
@@ -96,20 +92,37 @@ static PyObject *parse_front(PyObject *module, PyObject *const *args, Py_ssize_t
                              PyObject *keywords)
 {
     question asked;
+    number value;
     PyObject *found[3];
     if (question_of(module, "parse_front", args, count, keywords, 3, found, &asked) < 0)
         return NULL;
-    return answer_of(module, &asked, asked.type->front);
+    const notation *written = &asked.written;
+    const borrowed_text *text = &asked.text;
+    jadvolni_result answer =
+        written->is_fixed
+            ? written->type->fixed_front(text->bytes, text->len, &written->fixed, &value)
+            : written->type->front(text->bytes, text->len, &written->format, &value);
+    return answer_of(module, &asked, answer, &value);
 }
 
 static PyObject *parse_partial(PyObject *module, PyObject *const *args, Py_ssize_t count,
                                PyObject *keywords)
 {
     question asked;
+    number value;
     PyObject *found[3];
     if (question_of(module, "parse_partial", args, count, keywords, 3, found, &asked) < 0)
         return NULL;
-    return answer_of(module, &asked, asked.type->partial);
+    const notation *written = &asked.written;
+    const borrowed_text *text = &asked.text;
+    if (written->is_fixed) {
+        PyErr_SetString(PyExc_TypeError, "parse_partial() reads no Fixed: take parse_front()");
+        give_back(&asked.text);
+        return NULL;
+    }
+    return answer_of(
+        module, &asked,
+        written->type->partial(text->bytes, text->len, &written->format, &value), &value);
 }
 
 /* A number of 128 bits, the ASCII text behind it, and the place behind that. */
@@ -158,6 +171,19 @@ static PyObject *check_format(PyObject *module, PyObject *fields)
     Py_RETURN_NONE;
 }
 
+static PyObject *check_fixed(PyObject *module, PyObject *fixed)
+{
+    notation written;
+    if (notation_of(PyModule_GetState(module), fixed, NULL, &written) < 0)
+        return NULL;
+    uint32_t invalid = written.is_fixed ? jadvolni_fixed_error(&written.fixed) : JADVOLNI_OK;
+    if (invalid != JADVOLNI_OK) {
+        raise_format(PyModule_GetState(module), invalid);
+        return NULL;
+    }
+    Py_RETURN_NONE;
+}
+
 /* ---- the module ---- */
 
 #define CALL(name, text) \
@@ -169,10 +195,12 @@ static PyMethodDef METHODS[] = {
          "The number that the whole text stands for.\n\n"
          "The text is a str, read as UTF-8, or an object of contiguous bytes. ParseError tells\n"
          "why it is no number of the type, or that it is less than `min` or more than `max`, and\n"
-         "FormatError why the format is none."),
+         "FormatError why the format is none. A Fixed in the place of the type reads a\n"
+         "fixed-point number, in units of its last place."),
     CALL(parse_front,
          "parse_front(text, type=\"i64\", format=None)\n--\n\n"
-         "The number in front of the text, and how many bytes of the text it has.\n\n"
+         "The number in front of the text, and how many bytes of the text it has. A Fixed may\n"
+         "stand in the place of the type.\n\n"
          "Where no digit was read, ParseError tells the place where reading stopped. Where more\n"
          "bytes may come, an answer at the text's end isn't final: 12 may go on as 123."),
     CALL(parse_partial,
@@ -192,10 +220,15 @@ static PyMethodDef METHODS[] = {
          "no further field. ParseError has the first field that is no number, by `field` and\n"
          "`start`, and its `place` counts from the text's start. The GIL is released: no\n"
          "other thread may change the text meanwhile."),
+    CALL(line_column,
+         "line_column(text, place)\n--\n\n"
+         "Line and column of a place of a text, both from 0: how many line feeds stand before it,\n"
+         "and how many bytes behind the last of them.\n\n"
+         "An editor counts the same from 1. A place behind the text is taken for its end."),
     {"_parse_part", (PyCFunction)(void (*)(void))parse_part, METH_FASTCALL,
      "A column whose fields count on from those of the parts before it."},
     {"_parse_table", (PyCFunction)(void (*)(void))parse_table, METH_FASTCALL,
-     "The rows of a text from a place on, each column into a buffer."},
+     "The rows of a text from one place to another, each column into a buffer."},
     {"_keep_memory", keep_memory, METH_O, "Has the allocator keep so much."},
     {"_text_size", text_size, METH_O, "How many bytes a text has."},
     {"_move_bits", move_bits, METH_VARARGS, "Puts bits behind those before a place."},
@@ -207,6 +240,8 @@ static PyMethodDef METHODS[] = {
     {"_row_stops", row_stops, METH_VARARGS, "Where about so many parts of a text stop, each with a row."},
     {"_array_code", array_code, METH_O, "The code of the arrays of a type."},
     {"_check_format", check_format, METH_O, "Raises FormatError where a format is invalid."},
+    {"_check_fixed", check_fixed, METH_O, "Raises FormatError where a Fixed is invalid."},
+    {"_lines", lines_in, METH_VARARGS, "How many line feeds stand between two places."},
     {NULL, NULL, 0, NULL},
 };
 
@@ -230,7 +265,8 @@ static int execute(PyObject *module)
 {
     core_state *state = PyModule_GetState(module);
     state->fields_name = PyUnicode_InternFromString("_fields");
-    if (!state->fields_name || make_exceptions(module, state) < 0 || make_zeros(state) < 0)
+    state->fixed_name = PyUnicode_InternFromString("_fixed");
+    if (!state->fields_name || !state->fixed_name || make_exceptions(module, state) < 0 || make_zeros(state) < 0)
         return -1;
     return PyModule_AddStringConstant(module, "__version__", JADVOLNI_VERSION_STRING);
 }
@@ -241,6 +277,7 @@ static int traverse(PyObject *module, visitproc visit, void *arg)
     Py_VISIT(state->parse_error);
     Py_VISIT(state->format_error);
     Py_VISIT(state->fields_name);
+    Py_VISIT(state->fixed_name);
     for (int k = 0; k < TYPES; k++)
         Py_VISIT(state->zeros[k]);
     return 0;
@@ -252,6 +289,7 @@ static int clear(PyObject *module)
     Py_CLEAR(state->parse_error);
     Py_CLEAR(state->format_error);
     Py_CLEAR(state->fields_name);
+    Py_CLEAR(state->fixed_name);
     for (int k = 0; k < TYPES; k++)
         Py_CLEAR(state->zeros[k]);
     return 0;

@@ -84,6 +84,45 @@ int format_of(const core_state *state, PyObject *format, jadvolni_format *fields
     return whole ? 0 : -1;
 }
 
+/* The bytes of a Fixed and its type, and 0 for what has none. -1 with an exception. */
+static int fixed_of(const core_state *state, PyObject *given, notation *written)
+{
+    char *bytes = NULL;
+    Py_ssize_t size;
+    PyObject *own = PyObject_GetAttr(given, state->fixed_name), *type = NULL;
+    if (!own) {
+        if (!PyErr_ExceptionMatches(PyExc_AttributeError))
+            return -1;
+        PyErr_Clear();
+        return 0;
+    }
+    if (PyBytes_AsStringAndSize(own, &bytes, &size) == 0 && size == sizeof written->fixed) {
+        memcpy(&written->fixed, bytes, sizeof written->fixed);
+        type = PyObject_GetAttrString(given, "type");
+        written->type = type ? type_of(type) : NULL;
+    } else {
+        PyErr_Clear();
+        raise_type("type", "a str such as 'u64' or a jadvolni.Fixed", given, "");
+    }
+    Py_XDECREF(type);
+    Py_DECREF(own);
+    return PyErr_Occurred() ? -1 : 1;
+}
+
+int notation_of(const core_state *state, PyObject *type, PyObject *format, notation *written)
+{
+    int has_fixed = type && !PyUnicode_Check(type) && !PyType_Check(type);
+    written->is_fixed = has_fixed ? fixed_of(state, type, written) : 0;
+    if (written->is_fixed > 0 && format && format != Py_None) {
+        raise_type("format", "None where the type is a Fixed, which has one of its own", format, "");
+        return -1;
+    }
+    if (written->is_fixed)
+        return written->is_fixed < 0 ? -1 : 0;
+    written->type = type_of(type);
+    return written->type ? format_of(state, format, &written->format) : -1;
+}
+
 /* Why what a buffer has isn't a row of bytes, and NULL where it is. An array of texts, or of
  * numbers of several bytes, would be read as one text. */
 static const char *no_bytes(const Py_buffer *view)

@@ -73,23 +73,23 @@ PyObject *within(const core_state *state, PyObject *value, const bounds *asked)
 }
 
 /* The number of a text that its type is too small for, or None where 128 bits are too few as well. */
-static PyObject *wide_value(const borrowed_text *text, const jadvolni_format *format)
+static PyObject *wide_value(const borrowed_text *text, const notation *written)
 {
     for (const number_type *type = types; type < types + TYPES; type++) {
         number value;
         if (!type->array_code
-            && type->whole(text->bytes, text->len, format, &value).status == JADVOLNI_OK)
+            && whole_number(text, type, written, &value).status == JADVOLNI_OK)
             return type->number(&value);
     }
     return Py_NewRef(Py_None);
 }
 
 int raise_beyond(const core_state *state, jadvolni_result answer, const borrowed_text *text,
-                 const jadvolni_format *format, const bounds *asked)
+                 const notation *written, const bounds *asked)
 {
     if (answer.status != JADVOLNI_OVERFLOW && answer.status != JADVOLNI_UNDERFLOW)
         return 0;
-    PyObject *value = wide_value(text, format), *shown = NULL;
+    PyObject *value = wide_value(text, written), *shown = NULL;
     int left = !value ? -1 : value != Py_None ? status_within(value, asked)
                : (answer.status == JADVOLNI_OVERFLOW ? asked->most : asked->least) != Py_None;
     if (left > 0)

@@ -3,8 +3,8 @@
  *
  * The library reads the texts. `types.c` has the types of numbers, `faults.c` the exceptions, `bounds.c` the
  * bounds of a number, `arguments.c` what the calls are given, `columns.c` columns, `tables.c` tables, `rows.c`
- * where their rows end, `arrow.c` tables for Arrow, and `_core.c` the other calls and the module. `Format` is
- * Python, and hands its bytes over as the attribute `_fields`.
+ * where their rows end, `cells.c` their cells at fault, `arrow.c` tables for Arrow, and `_core.c` the other
+ * calls and the module. `Format` and `Fixed` are Python, and hand their bytes over as `_fields` and `_fixed`.
  */
 #ifndef JADVOLNI_PYTHON_CORE_H
 #define JADVOLNI_PYTHON_CORE_H
@@ -40,6 +40,8 @@ typedef union number {
 
 typedef jadvolni_result parse_call(const char *text, size_t len, const jadvolni_format *format,
                                    void *value);
+typedef jadvolni_result fixed_call(const char *text, size_t len, const jadvolni_fixed *fixed,
+                                   void *value);
 typedef jadvolni_result column_call(const char *text, size_t len, uint8_t separator,
                                     const jadvolni_format *format, void *values, size_t capacity,
                                     size_t *count);
@@ -52,6 +54,8 @@ typedef struct number_type {
     parse_call *whole;
     parse_call *front;
     parse_call *partial;
+    fixed_call *fixed;
+    fixed_call *fixed_front;
     column_call *column;
     PyObject *(*number)(const number *value);
     size_t size;  /* the bytes of a number of an array, and where a table's column has that array */
@@ -75,7 +79,8 @@ PyObject *wide_number(const jadvolni_uint128 *halves);
 typedef struct core_state {
     PyObject *parse_error;
     PyObject *format_error;
-    PyObject *fields_name;  /* the name of the attribute of a Format that has its bytes */
+    PyObject *fields_name;  /* the names of the attributes of a Format and a Fixed that have their bytes */
+    PyObject *fixed_name;
     PyObject *zeros[TYPES]; /* for each type that columns have an array of one zero */
 } core_state;
 
@@ -93,12 +98,6 @@ typedef struct field_place {
     size_t index;
     size_t start;
 } field_place;
-
-/* How many rows and bytes of a text stand before a part of it. */
-typedef struct table_place {
-    size_t row;
-    size_t start;
-} table_place;
 
 /* Makes the module's exceptions. -1 with an exception where that fails. */
 int make_exceptions(PyObject *module, core_state *state);
@@ -119,8 +118,27 @@ PyObject *shown_bytes(const char *text, size_t len);
 /* Raises ParseError with a message, which it takes over. */
 void raise_message(const core_state *state, PyObject *message, jadvolni_result answer);
 
-/* Raises the fault of a table, in a part of a text. */
-void raise_table(const core_state *state, jadvolni_table_result answer, const table_place *first);
+/* ---- how numbers are written ---- */
+
+/* How a number is written: of a type, under a format or as a fixed-point number. */
+typedef struct notation {
+    const number_type *type;
+    int is_fixed;
+    jadvolni_format format;
+    jadvolni_fixed fixed;
+} notation;
+
+/* The notation of a type and a format, or of a Fixed, which has both. -1 with an exception. (arguments.c) */
+int notation_of(const core_state *state, PyObject *type, PyObject *format, notation *written);
+
+/* The number of a whole text, of another type than the notation's where that is asked for. */
+static inline jadvolni_result whole_number(const borrowed_text *text, const number_type *type,
+                                           const notation *written, number *value)
+{
+    if (written->is_fixed)
+        return type->fixed(text->bytes, text->len, &written->fixed, value);
+    return type->whole(text->bytes, text->len, &written->format, value);
+}
 
 /* ---- bounds.c ---- */
 
@@ -140,20 +158,31 @@ PyObject *within(const core_state *state, PyObject *value, const bounds *asked);
 
 /* Raises ParseError where a text has no number of its type, but one that leaves bounds, and says if so. */
 int raise_beyond(const core_state *state, jadvolni_result answer, const borrowed_text *text,
-                 const jadvolni_format *format, const bounds *asked);
+                 const notation *written, const bounds *asked);
 
 /* ---- tables.c ---- */
 
-/* The rows of a text from a place on: _parse_table(text, from, is_last, how, columns, at, capacity, row,
- * start), where `how` is separator, has_returns, has_quotes, allows_blanks, skips_empty_rows, missing,
- * widths, which are an array of size_t, and is_records. A column is None, or its numbers, bits or None, type
- * and format; rows go there from `at` on. It gives how many rows were read, and how many bytes they had.
- * A fault counts on from `row` and `start`. */
+/* The rows of a text from one place to another: _parse_table(text, from, to, is_last, how, columns, at,
+ * capacity, bad), where `how` is separator, has_returns, has_quotes, allows_blanks, skips_empty_rows,
+ * missing, widths, which are an array of size_t, and is_records. A column is None, or its numbers, bits or
+ * None, type and format; rows go there from `at` on. It gives how many rows were read, how many bytes they
+ * had, how many bad rows were skipped, and the faults that are told. Where `bad` is -1, the first bad row
+ * ends the reading, and is told. Else they are skipped: for 0 none is told, and else all, since reading stops
+ * behind so many. */
 PyObject *parse_table(PyObject *module, PyObject *const *args, Py_ssize_t count);
 
 PyObject *array_code(PyObject *module, PyObject *given);
 
 /* ---- rows.c ---- */
+
+/* How many line feeds stand in a text from one place to another: _lines(text, from, to). */
+PyObject *lines_in(PyObject *module, PyObject *args);
+
+/* Line and column of a place: line_column(text, place). */
+PyObject *line_column(PyObject *module, PyObject *const *args, Py_ssize_t count, PyObject *keywords);
+
+/* Where a row ends, behind its line feed, whose first bytes have so many quotes; or 0 where it goes on. */
+size_t row_end(const char *text, size_t len, size_t quotes, int has_quotes);
 
 /* How often a byte stands in a text. */
 size_t count_of(const char *text, size_t len, char byte);
@@ -179,6 +208,14 @@ PyObject *keep_memory(PyObject *module, PyObject *size);
 
 /* Where parts stop that threads may read: _row_stops(text, count, has_quotes, record). */
 PyObject *row_stops(PyObject *module, PyObject *args);
+
+/* ---- cells.c ---- */
+
+/* What is known of bad rows of a text, whose first bytes stand before the part that was read: a tuple for
+ * each, of its kind, message, number among the rows that were read, column, place, start, stop, and the start
+ * and the first bytes of its wrong cell. */
+PyObject *faults_of(const jadvolni_bad_row *bad, size_t count, const borrowed_text *part, size_t before,
+                    const jadvolni_table *table);
 
 /* ---- arrow.c ---- */
 

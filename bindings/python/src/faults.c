@@ -10,8 +10,10 @@ enum { SHOWN = 64 };
 static PyObject *exception(PyObject *module, const char *name, const char *path, const char *text)
 {
     PyObject *attributes =
-        Py_BuildValue("{s:s,s:O,s:O,s:O,s:O,s:O}", "kind", "", "place", Py_None, "field", Py_None,
-                      "start", Py_None, "row", Py_None, "column", Py_None);
+        Py_BuildValue("{s:s,s:O,s:O,s:O,s:O,s:O,s:O,s:O,s:O,s:O,s:O}", "kind", "", "place", Py_None,
+                      "field", Py_None, "start", Py_None, "row", Py_None, "line", Py_None, "column",
+                      Py_None, "name", Py_None, "row_start", Py_None, "row_stop", Py_None, "text",
+                      Py_None);
     PyObject *made = NULL;
     if (attributes)
         made = PyErr_NewExceptionWithDoc(path, text, PyExc_ValueError, attributes);
@@ -28,7 +30,10 @@ int make_exceptions(PyObject *module, core_state *state)
         "A text is no number of its type, or none under its format.\n\n"
         "kind: what is wrong, as \"Overflow\". place: at which byte of the text.\n"
         "field, start: in a column the field's index and its first byte.\n"
-        "row, column: in a table the wrong cell, both from 0.");
+        "row, column: in a table the wrong cell. name: that of its column.\n"
+        "line: the line feeds before the place. row_start, row_stop: where its row is.\n"
+        "text: the first 40 bytes of the cell.\n\n"
+        "All count from 0, and messages count lines and columns from 1.");
     if (!state->parse_error)
         return -1;
     state->format_error = exception(
@@ -114,24 +119,6 @@ void raise_fault(const core_state *state, jadvolni_result answer, const char *te
     if (error && set_attribute(error, "place", PyLong_FromSize_t(answer.place)) == 0
         && (!field || (set_attribute(error, "field", PyLong_FromSize_t(field->index)) == 0
                        && set_attribute(error, "start", PyLong_FromSize_t(field->start)) == 0)))
-        PyErr_SetObject(state->parse_error, error);
-    Py_XDECREF(error);
-}
-
-void raise_table(const core_state *state, jadvolni_table_result answer, const table_place *first)
-{
-    if (is_of_format(answer.status)) {
-        raise_format(state, answer.status);
-        return;
-    }
-    size_t place = first->start + answer.place, row = first->row + answer.rows;
-    PyObject *message = PyUnicode_FromFormat("%s at byte %zu, in row %zu, column %zu",
-                                             jadvolni_status_text(answer.status), place, row,
-                                             answer.column);
-    PyObject *error = error_of(state->parse_error, message, answer.status);
-    if (error && set_attribute(error, "place", PyLong_FromSize_t(place)) == 0
-        && set_attribute(error, "row", PyLong_FromSize_t(row)) == 0
-        && set_attribute(error, "column", PyLong_FromSize_t(answer.column)) == 0)
         PyErr_SetObject(state->parse_error, error);
     Py_XDECREF(error);
 }

@@ -60,6 +60,47 @@ PyObject *text_size(PyObject *module, PyObject *given)
     return PyLong_FromSize_t(text.len);
 }
 
+PyObject *lines_in(PyObject *module, PyObject *args)
+{
+    (void)module;
+    PyObject *given;
+    Py_ssize_t from, to;
+    borrowed_text text;
+    size_t lines = 0;
+    if (!PyArg_ParseTuple(args, "Onn", &given, &from, &to) || borrow("text", given, &text) < 0)
+        return NULL;
+    size_t stop = (size_t)to < text.len ? (size_t)to : text.len, start = (size_t)from;
+    Py_BEGIN_ALLOW_THREADS
+    if (start < stop)
+        lines = jadvolni_line_column(text.bytes + start, stop - start, stop - start).line;
+    Py_END_ALLOW_THREADS
+    give_back(&text);
+    return PyLong_FromSize_t(lines);
+}
+
+PyObject *line_column(PyObject *module, PyObject *const *args, Py_ssize_t count, PyObject *keywords)
+{
+    (void)module;
+    static const char *const names[] = {"text", "place"};
+    PyObject *found[2];
+    borrowed_text text;
+    jadvolni_position position;
+    if (arguments("line_column", args, count, keywords, names, 2, 2, found) < 0)
+        return NULL;
+    if (!found[1]) {
+        PyErr_SetString(PyExc_TypeError, "line_column() needs the argument 'place'");
+        return NULL;
+    }
+    size_t place = PyLong_AsSize_t(found[1]);
+    if (PyErr_Occurred() || borrow("text", found[0], &text) < 0)
+        return NULL;
+    Py_BEGIN_ALLOW_THREADS
+    position = jadvolni_line_column(text.bytes, text.len, place);
+    Py_END_ALLOW_THREADS
+    give_back(&text);
+    return Py_BuildValue("(nn)", (Py_ssize_t)position.line, (Py_ssize_t)position.column);
+}
+
 /* How many rows a text has at most: its lines, or its records of so many bytes. */
 static size_t rows_in(const borrowed_text *text, size_t record)
 {
@@ -83,8 +124,7 @@ PyObject *row_count(PyObject *module, PyObject *args)
     return PyLong_FromSize_t(rows);
 }
 
-/* Where a row ends, behind its line feed, whose first bytes have so many quotes; or 0 where it goes on. */
-static size_t row_end(const char *text, size_t len, size_t quotes, int has_quotes)
+size_t row_end(const char *text, size_t len, size_t quotes, int has_quotes)
 {
     if (!has_quotes) {
         const char *end = memchr(text, '\n', len);

@@ -180,6 +180,27 @@ static int ask_apart(const columns *all, const borrowed_text *text, const borrow
     return apart ? 0 : -1;
 }
 
+/* What a call is asked: the part of a text from one place to another, how the table is written, and how many
+ * bad rows it tells, or -1 where the first one ends the reading. */
+typedef struct question {
+    borrowed_text text;
+    borrowed_text part;
+    borrowed_text missing;
+    Py_buffer widths;
+    jadvolni_table table;
+    size_t from;
+    size_t to;
+    int is_last;
+    Py_ssize_t bad;
+} question;
+
+/* The bytes of a text from one place to another, or to its end. */
+static borrowed_text part_of(const borrowed_text *text, size_t from, size_t to)
+{
+    size_t stop = to < text->len ? to : text->len, start = from < stop ? from : stop;
+    return (borrowed_text){.bytes = text->bytes + start, .len = stop - start};
+}
+
 /* How a table is written: its separator, flags, what stands for a missing number, and widths. */
 static int table_of(PyObject *given, jadvolni_table *table, borrowed_text *missing,
                     Py_buffer *widths)
@@ -208,29 +229,73 @@ static int table_of(PyObject *given, jadvolni_table *table, borrowed_text *missi
     return 0;
 }
 
-/* Reads rows: how many there were, and where reading stopped. */
-static PyObject *rows_of(const core_state *state, const borrowed_text *text, int is_last,
-                         const jadvolni_table *table, columns *all, const table_place *first)
+/* The rows of a part of a text, up to the first bad one. */
+static PyObject *rows_of(const core_state *state, const question *asked, columns *all)
 {
+    const borrowed_text *part = &asked->part;
     jadvolni_table_result answer;
+    jadvolni_row_result row = {0};
     Py_BEGIN_ALLOW_THREADS
-    answer = jadvolni_parse_table(text->bytes, text->len, is_last, table, all->capacity,
+    answer = jadvolni_parse_table(part->bytes, part->len, asked->is_last, &asked->table, all->capacity,
                                   all->columns, (size_t)all->count);
+    if (answer.status != JADVOLNI_OK && !is_of_format(answer.status))
+        row = jadvolni_row_place(part->bytes, part->len, &asked->table, answer.rows);
     Py_END_ALLOW_THREADS
     join_bits(all, answer.rows);
     if (answer.status == JADVOLNI_OK)
-        return Py_BuildValue("(nn)", (Py_ssize_t)answer.rows, (Py_ssize_t)answer.place);
-    raise_table(state, answer, first);
-    return NULL;
+        return Py_BuildValue("(nnn())", (Py_ssize_t)answer.rows, (Py_ssize_t)answer.place, (Py_ssize_t)0);
+    if (is_of_format(answer.status)) {
+        raise_format(state, answer.status);
+        return NULL;
+    }
+    jadvolni_bad_row bad = {.status = answer.status, .row = answer.rows, .column = answer.column,
+                            .place = answer.place, .start = row.start, .stop = row.stop};
+    return Py_BuildValue("(nnnN)", (Py_ssize_t)answer.rows, (Py_ssize_t)row.start, (Py_ssize_t)0,
+                         faults_of(&bad, 1, part, asked->from, &asked->table));
 }
 
-/* Cuts off what a text has in front of a place. The rows of the rest are no more than its bytes. */
-static void go_on(borrowed_text *text, size_t place, columns *all)
+/* The right rows of a part of a text, and the bad ones among them: so many at most, where some are told. */
+static PyObject *right_rows_of(const core_state *state, const question *asked, columns *all)
 {
-    place = place < text->len ? place : text->len;
-    text->bytes += place;
-    text->len -= place;
-    all->capacity = all->capacity < text->len ? all->capacity : text->len;
+    const borrowed_text *part = &asked->part;
+    size_t most = (size_t)asked->bad, room = most < part->len ? most : part->len;
+    jadvolni_skipping_result answer;
+    jadvolni_bad_row *bad = PyMem_Calloc(room + 1, sizeof *bad);
+    if (!bad)
+        return PyErr_NoMemory();
+    Py_BEGIN_ALLOW_THREADS
+    answer = jadvolni_parse_table_skipping(part->bytes, part->len, asked->is_last, &asked->table,
+                                           all->capacity, all->columns, (size_t)all->count, bad, room);
+    Py_END_ALLOW_THREADS
+    if (room && answer.bad_rows > room) { /* as if the text had ended behind the last one that is told */
+        answer.rows = bad[room - 1].row - (room - 1);
+        answer.place = bad[room - 1].stop;
+        answer.bad_rows = room;
+    }
+    PyObject *result = NULL;
+    join_bits(all, answer.rows);
+    if (answer.status == JADVOLNI_OK)
+        result = Py_BuildValue(
+            "(nnnN)", (Py_ssize_t)answer.rows, (Py_ssize_t)answer.place, (Py_ssize_t)answer.bad_rows,
+            faults_of(bad, room ? answer.bad_rows : 0, part, asked->from, &asked->table));
+    else
+        raise_format(state, answer.status);
+    PyMem_Free(bad);
+    return result;
+}
+
+/* Asks for the rows of a part of a text. */
+static PyObject *answer_of(const core_state *state, question *asked, PyObject *const *args, columns *all)
+{
+    if (table_of(args[4], &asked->table, &asked->missing, &asked->widths) < 0
+        || borrow("text", args[0], &asked->text) < 0)
+        return NULL;
+    asked->part = part_of(&asked->text, asked->from, asked->to);
+    if (all->capacity > asked->part.len) /* (a row has a byte, also a bad one) */
+        all->capacity = asked->part.len;
+    if (columns_of(state, args[5], all) < 0 || ask_apart(all, &asked->part, &asked->missing) < 0)
+        return NULL;
+    return asked->bad < 0 ? rows_of(state, asked, all) : right_rows_of(state, asked, all);
 }
 
 PyObject *parse_table(PyObject *module, PyObject *const *args, Py_ssize_t count)
@@ -239,24 +304,15 @@ PyObject *parse_table(PyObject *module, PyObject *const *args, Py_ssize_t count)
         PyErr_SetString(PyExc_TypeError, "_parse_table takes nine arguments");
         return NULL;
     }
-    const core_state *state = PyModule_GetState(module);
-    size_t from = PyLong_AsSize_t(args[1]);
-    int is_last = PyObject_IsTrue(args[2]);
-    columns all = {.at = PyLong_AsSize_t(args[5]), .capacity = PyLong_AsSize_t(args[6])};
-    table_place first = {PyLong_AsSize_t(args[7]), PyLong_AsSize_t(args[8])};
-    jadvolni_table table;
-    borrowed_text text = {0}, missing = {0};
-    Py_buffer widths = {0};
+    question asked = {.from = PyLong_AsSize_t(args[1]), .to = PyLong_AsSize_t(args[2]),
+                      .is_last = PyObject_IsTrue(args[3]), .bad = PyLong_AsSsize_t(args[8])};
+    columns all = {.at = PyLong_AsSize_t(args[6]), .capacity = PyLong_AsSize_t(args[7])};
     PyObject *rows = NULL;
-    if (!PyErr_Occurred() && table_of(args[3], &table, &missing, &widths) == 0
-        && borrow("text", args[0], &text) == 0) {
-        go_on(&text, from, &all);
-        if (columns_of(state, args[4], &all) == 0 && ask_apart(&all, &text, &missing) == 0)
-            rows = rows_of(state, &text, is_last, &table, &all, &first);
-    }
-    give_back(&text);
-    give_back(&missing);
-    PyBuffer_Release(&widths);
+    if (!PyErr_Occurred())
+        rows = answer_of(PyModule_GetState(module), &asked, args, &all);
+    give_back(&asked.text);
+    give_back(&asked.missing);
+    PyBuffer_Release(&asked.widths);
     let_go(&all);
     return rows;
 }

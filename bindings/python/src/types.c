@@ -18,6 +18,16 @@
                                           const jadvolni_format *format, void *value)            \
     {                                                                                            \
         return jadvolni_parse_##name##_partial_with_format(text, len, format, (type *)value);    \
+    }                                                                                            \
+    static jadvolni_result fixed_##name(const char *text, size_t len,                            \
+                                        const jadvolni_fixed *fixed, void *value)                \
+    {                                                                                            \
+        return jadvolni_parse_##name##_fixed(text, len, fixed, (type *)value);                   \
+    }                                                                                            \
+    static jadvolni_result fixed_front_##name(const char *text, size_t len,                      \
+                                              const jadvolni_fixed *fixed, void *value)          \
+    {                                                                                            \
+        return jadvolni_parse_##name##_fixed_front(text, len, fixed, (type *)value);             \
     }
 
 /* The call for columns of a type is that of the type of C, whose width and sign it has. */
@@ -89,10 +99,12 @@ static PyObject *number_i128(const number *value)
 }
 
 #define TYPE(name, call, numpy_name, code)                                                       \
-    {#name, numpy_name, code, whole_##name, front_##name, partial_##name, column_##name,         \
-     number_##name, sizeof(((number *)0)->call), offsetof(jadvolni_table_column, call)}
-#define WIDE_TYPE(name) \
-    {#name, NULL, NULL, whole_##name, front_##name, partial_##name, NULL, number_##name, 0, 0}
+    {#name, numpy_name, code, whole_##name, front_##name, partial_##name, fixed_##name,          \
+     fixed_front_##name, column_##name, number_##name, sizeof(((number *)0)->call),              \
+     offsetof(jadvolni_table_column, call)}
+#define WIDE_TYPE(name)                                                                          \
+    {#name, NULL, NULL, whole_##name, front_##name, partial_##name, fixed_##name,                \
+     fixed_front_##name, NULL, number_##name, 0, 0}
 
 const number_type types[TYPES] = {
     TYPE(i64, i64, "int64", "q"),
@@ -147,10 +159,10 @@ const number_type *type_of(PyObject *type)
     if (!type)
         return &types[0];
     PyObject *name = NULL;
-    if (PyType_Check(type))
-        name = PyType_GetName((PyTypeObject *)type);
-    else if (PyUnicode_Check(type))
+    if (PyUnicode_Check(type))
         name = Py_NewRef(type);
+    else if (PyType_Check(type))
+        name = PyType_GetName((PyTypeObject *)type);
     else
         name = dtype_name(type);
     const number_type *found = name ? type_named(name) : NULL;

@@ -4,6 +4,7 @@ import contextlib
 import importlib.util
 import os
 import pathlib
+import re
 import shutil
 import subprocess
 import sys
@@ -25,7 +26,12 @@ def answer_of(name, path, *words, **settings):
     command = [sys.executable, str(EXAMPLES / name), str(path), *words]
     settings = {"stdout": subprocess.PIPE, "stderr": subprocess.PIPE, **settings}
     run = subprocess.run(command, text=True, timeout=60, **settings)
-    return run.returncode, run.stdout, run.stderr.replace(f"{path}: ", "")
+    return run.returncode, run.stdout, re.sub(f"^{re.escape(str(path))}[:,] ", "", run.stderr)
+
+
+def line_of(told):
+    """The line that tells a fault, where a byte is one of a cell."""
+    return f"{told} of the cell\n" if '": ' in told else f"{told}\n"
 
 
 @contextlib.contextmanager
@@ -93,20 +99,21 @@ class Ledger(Case):
 
     def test_wrong_files(self):
         for content, told in (
-            (b"rent -80000\nfood 12x\nwine x\n", "line 2, cell 2, byte 19: InvalidDigit"),
-            (b"rent 1\r\nfood 2\r\n", "line 1, cell 2, byte 6: InvalidDigit"),
-            (b"rent 1\rfood 2", "line 1, cell 2, byte 6: InvalidDigit"),
-            (b"rent 1\0002\n", "line 1, cell 2, byte 6: InvalidDigit"),
-            (b"\n", "line 1, cell 2, byte 0: TooFewCells"),
-            (b"a 1\n\n", "line 2, cell 2, byte 4: TooFewCells"),
-            (b"a 1\nb ", "line 2, cell 2, byte 6: Empty"),
-            (b"two words 7\n", "line 1, cell 2, byte 4: InvalidDigit"),
-            (b"a 9223372036854775808", "line 1, cell 2, byte 20: Overflow"),
-            (b"a 1\n" * 500_000 + b"b x", "line 500001, cell 2, byte 2000002: InvalidDigit"),
+            (b"rent -80000\nfood 12x\nwine x\n", 'line 2, "cents": "12x": invalid digit at byte 2'),
+            (b"rent 1\r\nfood 2\r\n", r'line 1, "cents": "1\r": invalid digit at byte 1'),
+            (b"rent 1\rfood 2", r'line 1, "cents": "1\rfood": invalid digit at byte 1'),
+            (b"rent 1\0002\n", r'line 1, "cents": "1\x002": invalid digit at byte 1'),
+            (b"\n", 'line 1: too few cells, none for "cents"'),
+            (b"a 1\n\n", 'line 2: too few cells, none for "cents"'),
+            (b"a 1\nb ", 'line 2, "cents": "": missing digit at byte 0'),
+            (b"two words 7\n", 'line 1, "cents": "words": invalid digit at byte 0'),
+            (b"a 9223372036854775808",
+             'line 1, "cents": "9223372036854775808": overflow at byte 18'),
+            (b"a 1\n" * 500_000 + b"b x", 'line 500001, "cents": "x": invalid digit at byte 0'),
             (b"a 1\n" + b"b" * 3_000_000, "the row at byte 4 has more than 1048576 bytes"),
         ):
             with self.subTest(content=content[:40]):
-                self.assertEqual(self.answer("ledger.py", content), (1, "", f"{told}\n"))
+                self.assertEqual(self.answer("ledger.py", content), (1, "", line_of(told)))
 
 
 class Records(Case):
@@ -126,16 +133,16 @@ class Records(Case):
     def test_wrong_files(self):
         record = b"365rent-80000"
         for content, told in (
-            (record + b"\n", "record 2, cell 1, byte 14: TooFewCells"),
-            (record + record[:12], "record 2, cell 3, byte 25: TooFewCells"),
-            (record + b"\n" + record, "record 2, cell 1, byte 13: InvalidDigit"),
-            (b"365rent-8000x", "record 1, cell 3, byte 12: InvalidDigit"),
-            (b"365rent-8\n000", "record 1, cell 3, byte 9: InvalidDigit"),
-            (b"365rent      ", "record 1, cell 3, byte 13: Empty"),
-            (record * 500_000 + record[:5], "record 500001, cell 2, byte 6500005: TooFewCells"),
+            (record + b"\n", 'row 2: too few cells, none for "day"'),
+            (record + record[:12], 'row 2: too few cells, none for "cents"'),
+            (record + b"\n" + record, r'row 2, "day": "\n36": invalid digit at byte 0'),
+            (b"365rent-8000x", 'row 1, "cents": "-8000x": invalid digit at byte 5'),
+            (b"365rent-8\n000", r'row 1, "cents": "-8\n000": invalid digit at byte 2'),
+            (b"365rent      ", 'row 1, "cents": "      ": missing digit at byte 6'),
+            (record * 500_000 + record[:5], 'row 500001: too few cells, none for "what"'),
         ):
             with self.subTest(content=content[:40]):
-                self.assertEqual(self.answer("records.py", content), (1, "", f"{told}\n"))
+                self.assertEqual(self.answer("records.py", content), (1, "", line_of(told)))
 
 
 class CsvColumn(Case):
@@ -184,18 +191,19 @@ class CopyBinary(Case):
 
     def test_wrong_files(self):
         for content, told in (
-            (b"1;rent;x\n", "line 1, cell 3, byte 7: InvalidDigit"),
-            (b"1;rent;-1\n65536;a;2\n", "line 2, cell 1, byte 14: Overflow"),
-            (b"1;a;1\n" * 300_000 + b"1;a\n", "line 300001, cell 3, byte 1800003: TooFewCells"),
-            (b"1;rent;\n;a;2\n", "line 2, cell 1, byte 8: Empty"),
-            (b"1;rent; \n", "line 1, cell 3, byte 7: InvalidDigit"),
+            (b"1;rent;x\n", 'line 1, "cents": "x": invalid digit at byte 0'),
+            (b"1;rent;-1\n65536;a;2\n", 'line 2, "day": "65536": overflow at byte 4'),
+            (b"1;a;1\n" * 300_000 + b"1;a\n", 'line 300001: too few cells, none for "cents"'),
+            (b"1;rent;\n;a;2\n", 'line 2, "day": "": missing digit at byte 0'),
+            (b"1;rent; \n", 'line 1, "cents": " ": invalid digit at byte 0'),
         ):
             with self.subTest(content=content[:40]):
                 path = self.folder / "input"
                 path.write_bytes(content)
                 command = [sys.executable, EXAMPLES / "copy_binary.py", path]
                 run = subprocess.run(command, capture_output=True, timeout=60)
-                self.assertEqual((run.returncode, run.stderr.decode()), (1, f"{path}: {told}\n"))
+                said = f"{path}, {line_of(told)}"
+                self.assertEqual((run.returncode, run.stderr.decode()), (1, said))
                 self.assertEqual(run.stdout[-2:], b"\0\0")
 
     def test_a_full_device(self):
@@ -260,8 +268,8 @@ class Frame(Case):
             (b"1;rent;-80000\n2;;\n3;a;7", (0, "3 rows, 1 without cents, -80000 to 7\n", "")),
             (b"1;;%d\n" % -2**63, (0, f"1 rows, 0 without cents, {-2**63} to {-2**63}\n", "")),
             (b"", (0, "0 rows, 0 without cents, <NA> to <NA>\n", "")),
-            (b"1;;2\n;;3\n", (1, "", "line 2, cell 1, byte 5: Empty\n")),
-            (b"1;;2\n3;;-\n", (1, "", "line 2, cell 3, byte 9: Empty\n")),
+            (b"1;;2\n;;3\n", (1, "", line_of('line 2, "day": "": missing digit at byte 0'))),
+            (b"1;;2\n3;;-\n", (1, "", line_of('line 2, "cents": "-": missing digit at byte 1'))),
         ):
             with self.subTest(content=content[:40]):
                 self.assertEqual(self.answer("frame.py", content), answer)

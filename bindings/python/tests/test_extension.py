@@ -149,8 +149,15 @@ class Types(unittest.TestCase):
             try:
                 for kind in "u8", "u16":
                     day += jadvolni.parse("1", kind)
+                day += jadvolni.parse("1.50", jadvolni.Fixed("u8", places=2), max=200)
+                day += jadvolni.parse_front("1.5", jadvolni.Fixed(places=1, group=" "))[0]
             except jadvolni.ParseError as error:
-                print(error.place + 1, error.row + 1)
+                print(error.place + 1, error.row + 1, error.line + 1, error.text.decode())
+            bad: list[jadvolni.ParseError] = []
+            table = jadvolni.parse_table("1", {"a": "u8"}, on_error="skip", errors=bad)
+            for table in jadvolni.iter_table(gzip.open("days.gz", "rb"), {"a": "u8"},
+                                             on_error="skip", errors=print):
+                day += table.bad_rows + jadvolni.line_column(b"", 0)[1]
         """
         with tempfile.TemporaryDirectory() as folder:
             caller = pathlib.Path(folder, "caller.py")

@@ -50,7 +50,7 @@ def outcome(call):
     try:
         return call()
     except ParseError as error:
-        return error.kind, error.row, error.column, error.place, str(error)
+        return test_threads.fault_of(error)
 
 
 class Files(unittest.TestCase):

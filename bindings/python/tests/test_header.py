@@ -112,7 +112,9 @@ class Names(unittest.TestCase):
         self.assertEqual(self.found(b"id,x,x,amount\n1,a,b,-80000\n2,,,7\n", COLUMNS), WANTED)
 
     def test_faults_count_from_the_texts_start(self):
-        self.assertEqual(self.found(TEXT + b"3,,8x\n", COLUMNS)[:4], ("InvalidDigit", 2, 2, 38))
+        self.assertEqual(self.found(TEXT + b"3,,8x\n", COLUMNS), (
+            "InvalidDigit", 2, 2, 38, 3, "amount", 34, 40, b"8x",
+            'line 4, "amount": "8x": invalid digit at byte 1 of the cell'))
         self.assertEqual(self.found(TEXT + b"3,,8,9\n", COLUMNS)[:4], ("TooManyCells", 2, 3, 39))
         self.assertEqual(self.found(b"\xef\xbb\xbfid\nx\n", {"id": "u8"})[:4],
                          ("InvalidDigit", 0, 0, 6))
@@ -126,8 +128,10 @@ class Names(unittest.TestCase):
             wanted = test_threads.told(text, test_threads.COLUMNS, **given)
             found = self.found(head + text, test_threads.COLUMNS, **given)
             if isinstance(wanted, tuple):
-                kind, row, column, place, _ = wanted
-                self.assertEqual(found[:4], (kind, row, column, place + len(head)))
+                kind, row, column, place, line, name, start, stop = wanted[:8]
+                places = [it + len(head) for it in (place, start, stop)]
+                self.assertEqual(found[:9], (kind, row, column, places[0], line + 1, name,
+                                             *places[1:], wanted[8]))
             elif len(wanted["d"]) and max(map(len, text.split(b"\n"))) < 50:
                 self.assertEqual(found["d"], wanted["d"])
 

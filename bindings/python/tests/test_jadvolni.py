@@ -345,7 +345,8 @@ class Columns(Case):
 def load_tests(loader, tests, pattern):
     """The examples of the documentation are tests too."""
     tests.addTests(doctest.DocTestSuite(jadvolni))
-    tests.addTests(doctest.DocTestSuite(sys.modules["jadvolni._format"]))
+    for name in ("_fixed", "_format"):
+        tests.addTests(doctest.DocTestSuite(sys.modules[f"jadvolni.{name}"]))
     # (the line that ends a block of code would count as expected output)
     shown = README.read_text(encoding="utf-8").replace("```\n", "\n")
     examples = doctest.DocTestParser().get_doctest(shown, {}, README.name, str(README), 0)

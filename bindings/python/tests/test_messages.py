@@ -3,7 +3,7 @@
 import pathlib
 import unittest
 
-from jadvolni import Format, FormatError, ParseError, parse, parse_column
+from jadvolni import Fixed, Format, FormatError, ParseError, parse, parse_column, parse_table
 
 LIST = pathlib.Path(__file__).resolve().parents[2] / "errors.txt"
 
@@ -32,11 +32,22 @@ OF_FORMATS = {
     "InvalidPunctuation": {"base_prefix": "x", "base_suffix": "X"},
     "InvalidLiteralPrefixes": {"mantissa_radix": 8, "literal_octal_zero": True},
 }
-# The kinds that tables alone have.
-OF_TABLES = {"TooFewCells", "TooManyCells", "MissingReturn", "InvalidTable", "MisplacedQuote"}
-# Those of fixed-point numbers, which Python has no call for.
-OF_FIXED = {"InvalidFixedRadix", "InvalidFixedAffix", "InvalidPoint", "InvalidPlaces"}
-# Those of literals with types, which it has no call for either.
+# The kinds that tables alone have, each with a text of two columns. No call has an invalid table.
+OF_TABLES = {
+    "TooFewCells": "1\r\n",
+    "TooManyCells": "1,2,3\r\n",
+    "MissingReturn": "1,2\n",
+    "MisplacedQuote": '1,"\r\n',
+    "InvalidTable": None,
+}
+# The kinds of fixed-point numbers.
+OF_FIXED = {
+    "InvalidFixedRadix": {"format": Format(mantissa_radix=16)},
+    "InvalidFixedAffix": {"format": Format(base_suffix="d")},
+    "InvalidPoint": {"point": "7"},
+    "InvalidPlaces": {"places": 39},
+}
+# The kinds of literals with types, which Python has no call for.
 OF_TYPED_LITERALS = {"UnknownSuffix", "InvalidSuffixTable"}
 
 
@@ -50,9 +61,8 @@ class Messages(unittest.TestCase):
     """The messages of the exceptions."""
 
     def test_each_kind_is_tried(self):
-        tried = {*OF_TEXTS, *OF_FORMATS, "UnknownField"}
-        untried = {"Ok", "Unknown", *OF_TABLES, *OF_FIXED, *OF_TYPED_LITERALS}
-        self.assertEqual(tried, {*listed()} - untried)
+        tried = {*OF_TEXTS, *OF_FORMATS, *OF_TABLES, *OF_FIXED, "UnknownField"}
+        self.assertEqual(tried, {*listed()} - {"Ok", "Unknown", *OF_TYPED_LITERALS})
 
     def test_faults_of_texts(self):
         for kind, (place, text, format) in OF_TEXTS.items():
@@ -70,6 +80,21 @@ class Messages(unittest.TestCase):
         for kind, given in OF_FORMATS.items():
             with self.subTest(kind=kind), self.assertRaises(FormatError) as caught:
                 Format(**given)
+            message = listed()[kind]
+            self.assertEqual((caught.exception.kind, str(caught.exception)), (kind, message))
+
+    def test_faults_of_tables(self):
+        for kind, text in OF_TABLES.items():
+            if text is not None:
+                with self.subTest(kind=kind), self.assertRaises(ParseError) as caught:
+                    parse_table(text, {"a": "i8", "b": "i8"}, has_returns=True, has_quotes=True)
+                self.assertEqual(caught.exception.kind, kind)
+                self.assertIn(f": {listed()[kind]}", str(caught.exception))
+
+    def test_faults_of_fixed_point_numbers(self):
+        for kind, given in OF_FIXED.items():
+            with self.subTest(kind=kind), self.assertRaises(FormatError) as caught:
+                Fixed(**{"places": 2, **given})
             message = listed()[kind]
             self.assertEqual((caught.exception.kind, str(caught.exception)), (kind, message))
 

@@ -60,14 +60,13 @@ class Tables(unittest.TestCase):
         with self.assertRaises(ParseError) as whole:
             parse_table(text, columns, ";", **given)
         told = whole.exception
-        self.assertEqual((told.kind, told.row, told.column), (kind, row, column))
-        self.assertIn(f" at byte {place}, in row {row}, column {column}", str(told))
+        self.assertEqual((told.kind, told.row, told.column, told.place), (kind, row, column, place))
         for size in range(1, len(text) + 2):
             with self.assertRaises(ValueError) as cut:
                 for _ in iter_table(io.BytesIO(text), columns, ";", rows=2, size=size, **given):
                     pass
             if isinstance(cut.exception, ParseError):
-                self.assertEqual(str(cut.exception), str(told))
+                self.assertEqual((str(cut.exception), vars(cut.exception)), (str(told), vars(told)))
             else:
                 self.assertRegex(str(cut.exception), f"the row at byte .* more than {size} ")
 

@@ -5,6 +5,7 @@ import os
 import pathlib
 import pickle
 import random
+import re
 import signal
 import sys
 import tempfile
@@ -31,12 +32,19 @@ def lists(table):
             for name, values in table.items()}
 
 
+def fault_of(error):
+    """All that an error tells, with its message behind the name of a file."""
+    said = re.search("(line|row) .*", str(error))[0]
+    return (error.kind, error.row, error.column, error.place, error.line, error.name,
+            error.row_start, error.row_stop, error.text, said)
+
+
 def told(text, columns, **given):
     """The columns of a text as lists with their bits, or its fault."""
     try:
         table = parse_table(text, columns, **given)
     except ParseError as error:
-        return error.kind, error.row, error.column, error.place, str(error)
+        return fault_of(error)
     return lists(table)
 
 
@@ -199,7 +207,7 @@ class Threads(unittest.TestCase):
         first = threading.Lock()
 
         def parse(*asked):
-            columns, rows = asked[4], asked[6]
+            columns, rows = asked[5], asked[7]
             held = pickle.PickleBuffer(columns[0][0])
             if rows and first.acquire(blocking=False):
                 time.sleep(0.2)  # (until all threads have started)
@@ -216,19 +224,18 @@ class Threads(unittest.TestCase):
                 parse_table(b"1\n" * 20, {"a": "u8"}, threads=4)
 
     def test_a_text_that_changes_meanwhile(self):
-        """A text that was wrong in a thread is read again, and is right by then."""
+        """A fault is told as a thread has found it."""
         text = bytearray(b"1\n" * 9 + b"x\n" + b"1\n" * 9)
         parse = jadvolni._core._parse_table
 
         def heal(*asked):
-            try:
-                return parse(*asked)
-            except ParseError:
+            found = parse(*asked)
+            if found[3]:
                 text[18:19] = b"2"
-                raise
+            return found
 
         with mock.patch("jadvolni._reader._parse_table", heal):
-            with self.assertRaisesRegex(RuntimeError, "the text was changed while it was read"):
+            with self.assertRaisesRegex(ParseError, '^line 10, "a": "x": invalid digit at byte'):
                 parse_table(text, {"a": "u8"}, threads=3)
         self.assertEqual(sum(parse_table(text, {"a": "u8"}, threads=3)["a"]), 20)
 

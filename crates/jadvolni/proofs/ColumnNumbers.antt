@@ -17,7 +17,8 @@ use Rattle.lexical_tables.specs.Readings.{FixedPoints, Integers, IsValid, Number
 use Rattle.lexical_tables.specs.Targets.{TargetView, error_in, keeps_text, slice_of, text_fault, with_number}
 use Rattle.lexical_tables.proofs.NumbersPut.{as_values, same_error}
 use Rattle.jadvolni.specs.Arrays.{ArrayView, array_as, array_fault, array_in, number_type, put_answer, put_number as put_in, type_named}
-use Rattle.jadvolni.specs.Fixed.{fixed_of}
+use Rattle.lexical_fixed.specs.Fixed.{Fixed}
+use Rattle.jadvolni.specs.Fixed.{IsPlainFixed, fixed_of}
 use Rattle.jadvolni.specs.FormatFields.{format_of}
 use Rattle.jadvolni.specs.Tables.{bits_of, column_status, lacks_bits, number_status, number_target, put_at, put_number, put_place, put_zero, reading_of, target_as, target_by, target_of, target_status, text_target, text_view}
 use Rattle.jadvolni.specs.declared.arrays.ArrayFields.{ArrayFields}
@@ -28,6 +29,12 @@ use Rattle.jadvolni.specs.declared.table_columns.ColumnFields.{ColumnFields}
 use Rattle.jadvolni.specs.declared.text_columns.TextFields.{TextFields}
 
 -- ---- what numbers are read as
+
+-- a plain description is that beside the standard format
+pub plain_is : (fields : FixedFields) (format : Fixed) → IsPlainFixed fields
+    → format ≡ record (fixed_of fields) { integer = standard } → format ≡ fixed_of fields
+plain_is fields format plain is =
+    is ∙ ap (λ integer. record (fixed_of fields) { integer = integer }) (sym plain.integer)
 
 module _ (description : FixedFields) (type : IntegerType) where
   pub as_integers : description.places ≡ 0

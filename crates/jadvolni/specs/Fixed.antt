@@ -1,7 +1,7 @@
 -- Fixed-point numbers as C reads them: the description, byte by byte, and what a call does.
-use Rattle.std.specs.Prelude.{ℕ, ℤ, Bool, true, ◌==◌, ◌&&◌, List, length, Option, Some, None, Result, Ok, Err, if◌then◌else◌}
+use Rattle.std.specs.Prelude.{◌≡◌, ℕ, ℤ, Bool, true, ◌==◌, ◌&&◌, List, length, Option, Some, None, Result, Ok, Err, if◌then◌else◌}
 use Rattle.lexical_util.specs.Faults.{place_of}
-use Rattle.lexical_util.specs.Format.{Format}
+use Rattle.lexical_util.specs.Format.{Format, standard}
 use Rattle.lexical_util.specs.Number.{IntegerType}
 use Rattle.lexical_fixed.specs.Fixed.{Fixed}
 use Rattle.lexical_fixed.specs.Grammar.{complete_if_fixed, partial_if_fixed}
@@ -40,6 +40,12 @@ fixed_of fields = record {
   places = fields.places;
   takes_fewer = flag fields.takes_fewer;
 }
+
+-- A description whose bytes are known, which is valid, and whose integer part has the standard format.
+pub record IsPlainFixed (fields : FixedFields) : Type 0 where
+  pub known : fixed_known fields ≡ true
+  pub integer : integer_of fields.integer ≡ standard
+  pub valid : fixed_fault (fixed_of fields) ≡ None
 
 -- ---- statuses
 

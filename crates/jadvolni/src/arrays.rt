@@ -115,6 +115,7 @@ impl ArrayFields<'_> {
     }
 
     // Puts the number of a text into a row's place, or tells the text's fault, if there is an array.
+    #[inline(always)]
     pub(crate) fn put_cell(
         &mut self,
         row: usize,
@@ -148,6 +149,7 @@ impl ArrayFields<'_> {
     }
 
     // Puts the fixed-point number of a text into a row's place, or tells the text's fault, if there is an array.
+    #[inline(always)]
     pub(crate) fn put_fixed(
         &mut self,
         row: usize,

@@ -1,17 +1,24 @@
 //! Fixed-point numbers as C reads them: the description, byte by byte, and the two calls of every type.
 
-ghost use Rattle.std.specs.Prelude.{◌≡◌};
+ghost use Rattle.std.specs.Prelude.{◌≡◌, IsTrue, None};
+ghost use Rattle.lexical_fixed.specs.Grammar.{if_fixed};
+ghost use Rattle.lexical_util.specs.Format.{standard};
+ghost use Rattle.lexical_parse_integer.specs.Answer.{view_of, with_place};
 ghost use Rattle.jadvolni.specs.Effect.{effect};
-ghost use Rattle.jadvolni.specs.FormatFields.{are_zeros};
+ghost use Rattle.jadvolni.specs.Fixed.{IsPlainFixed, fixed_call, fixed_format_status, fixed_front_call, fixed_known, fixed_of, fixed_status, front_effect, integer_of, whole_effect};
+ghost use Rattle.jadvolni.specs.FormatFields.{are_known, are_zeros};
 ghost use Rattle.jadvolni.specs.Tables.{number_status};
-ghost use Rattle.jadvolni.specs.Fixed.{error_place, error_status, fixed_call, fixed_format_status, fixed_front_call, fixed_known, fixed_of, fixed_status, integer_of};
 
+use crate::calls::UNKNOWN;
 use crate::format::FormatFields;
 use crate::outcome::{Outcome, UNKNOWN_FIELD, status_of};
 use crate::slot::Slot;
-use lexical_fixed::{FixedError, FixedFormat, FixedFormatError, FromFixed};
+use lexical_fixed::quick::{complete_if_not_short, front_at_once, partial_if_left, value_if_short};
+use lexical_fixed::{FixedFormat, FixedFormatError};
 use lexical_parse_integer::NumberFormat;
+use lexical_parse_integer::format::STANDARD;
 use lexical_util::num::Integer;
+use lexical_util::result::Result;
 
 /// A description of fixed-point numbers, byte by byte: `jadvolni_fixed` in C, where each field is described.
 ///
@@ -27,6 +34,7 @@ pub struct FixedFields {
 }
 
 // The format of the integer part.
+#[inline(always)]
 fn integer_format(fields: &FormatFields) -> NumberFormat
     ensures { result ≡ integer_of fields.now }
 {
@@ -56,11 +64,12 @@ impl FixedFields {
     pub fn are_known(&self) -> bool
         ensures { result ≡ fixed_known self.now }
     {
-        self.integer.are_known() && self.are_reserved_zeros()
+        self.integer.are_known() && self.keeps_reserved()
     }
 
-    // Whether the bytes that are kept for later versions are 0: they are asked for as those of a format are.
-    fn are_reserved_zeros(&self) -> bool
+    // Whether the reserved bytes are 0: they are asked for as those of a format are.
+    #[inline(always)]
+    fn keeps_reserved(&self) -> bool
         ensures { result ≡ are_zeros self.now.reserved }
     {
         let kept = FormatFields {
@@ -75,7 +84,7 @@ impl FixedFields {
     pub(crate) fn number_status(&self) -> u32
         ensures { result ≡ number_status self.now }
     {
-        if !self.are_reserved_zeros() {
+        if !self.keeps_reserved() {
             return UNKNOWN_FIELD;
         }
         if self.places == 0 {
@@ -84,58 +93,140 @@ impl FixedFields {
         jadvolni_fixed_error(self)
     }
 
-    /// The description that the fields stand for, which may be invalid.
-    pub fn format(&self) -> FixedFormat
-        ensures { result ≡ fixed_of self.now }
+    // Whether the integer part has the standard format, and nothing that is unknown: its fields say so, or all are 0.
+    #[inline(always)]
+    fn has_standard_integer(&self) -> bool
+        ensures known { IsTrue result → IsTrue (are_known self.now.integer) }
+        ensures integer { IsTrue result → integer_of self.now.integer ≡ standard }
+    {
+        self.integer.is_standard() || self.integer.is_zero()
+    }
+
+    // Whether the description is valid and its integer part has the standard format: few words of it say so.
+    #[inline(always)]
+    pub(crate) fn is_plain(&self) -> bool
+        ensures { IsTrue result → IsPlainFixed self.now }
+    {
+        self.has_standard_integer() && self.keeps_reserved() && self.plain().is_plain()
+    }
+
+    // The description beside the standard format, which isn't made field by field.
+    #[inline(always)]
+    pub(crate) fn plain(&self) -> FixedFormat
+        ensures { result ≡ record (fixed_of self.now) { integer = standard } }
     {
         FixedFormat {
             point: if self.point == 0 { b'.' } else { self.point },
             places: self.places,
             takes_fewer: self.takes_fewer != 0,
+            integer: STANDARD,
+        }
+    }
+
+    /// The description that the fields stand for, which may be invalid.
+    #[inline(always)]
+    pub fn format(&self) -> FixedFormat
+        ensures { result ≡ fixed_of self.now }
+    {
+        FixedFormat {
             integer: integer_format(&self.integer),
+            ..self.plain()
         }
     }
 }
 
-// What a fault is to C.
-fn outcome_of(error: FixedError) -> Outcome
-    ensures status { result.status ≡ error_status error }
-    ensures place { result.place ≡ error_place error }
-{
-    match error {
-        FixedError::Format(error) => Outcome {
-            status: fixed_status(error),
-            place: 0,
-        },
-        FixedError::Text(error) => Outcome::of_fault(error),
-    }
-}
-
-/// The whole text, under a description that may be invalid.
-pub fn fixed<T: Integer, S: Slot<T>>(text: &[u8], fields: &FixedFields, value: &mut S) -> Outcome
+// Hands over what a whole text of so many bytes is, under a valid description.
+#[inline(always)]
+fn store<T: Integer, S: Slot<T>>(answer: Result<T>, size: usize, value: &mut S) -> Outcome
     ensures { effect result (S.number value.new)
-        ≡ fixed_call fields.now T.TYPE text.now (S.number value.old) }
+        ≡ whole_effect size (S.number value.old) (if_fixed None (view_of T.number answer)) }
 {
-    if !fields.are_known() {
-        return Outcome {
-            status: UNKNOWN_FIELD,
-            place: 0,
-        };
-    }
-    match T::from_fixed(text, &fields.format()) {
+    match answer {
         Ok(number) => {
             value.put(number);
             Outcome {
                 status: 0,
-                place: text.len(),
+                place: size,
             }
         }
-        Err(error) => outcome_of(error),
+        Err(error) => Outcome::of_fault(error),
     }
 }
 
-/// The number in front of the text, under a description that may be invalid.
-pub fn fixed_front<T: Integer, S: Slot<T>>(
+// Hands over what a text's front is, under a valid description.
+#[inline(always)]
+fn give_front<T: Integer, S: Slot<T>>(answer: Result<(T, usize)>, value: &mut S) -> Outcome
+    ensures { effect result (S.number value.new)
+        ≡ front_effect (S.number value.old) (if_fixed None (view_of (with_place T.number) answer)) }
+{
+    match answer {
+        Ok((number, place)) => {
+            value.put(number);
+            Outcome { status: 0, place }
+        }
+        Err(error) => Outcome::of_fault(error),
+    }
+}
+
+// What an invalid description is to C.
+fn refusal(error: FixedFormatError) -> Outcome
+    ensures status { result.status ≡ fixed_status error }
+    ensures place { result.place ≡ 0 }
+{
+    Outcome {
+        status: fixed_status(error),
+        place: 0,
+    }
+}
+
+// The whole text, under a description that is made field by field.
+#[inline(never)]
+fn fixed_any<T: Integer, S: Slot<T>>(text: &[u8], fields: &FixedFields, value: &mut S) -> Outcome
+    ensures { effect result (S.number value.new)
+        ≡ fixed_call fields.now T.TYPE text.now (S.number value.old) }
+{
+    if !fields.are_known() {
+        return UNKNOWN;
+    }
+    let format = fields.format();
+    match format.error() {
+        Some(error) => refusal(error),
+        None => store(complete_if_not_short::<T>(text, &format), text.len(), value),
+    }
+}
+
+// The whole text, under a plain description, for a text that isn't short.
+#[inline(never)]
+fn fixed_plain<T: Integer, S: Slot<T>>(text: &[u8], fields: &FixedFields, value: &mut S) -> Outcome
+    requires { IsPlainFixed fields.now }
+    ensures { effect result (S.number value.new)
+        ≡ fixed_call fields.now T.TYPE text.now (S.number value.old) }
+{
+    store(
+        complete_if_not_short::<T>(text, &fields.plain()),
+        text.len(),
+        value,
+    )
+}
+
+/// The whole text, under a description that may be invalid. A short one is read in place where the description is plain.
+#[inline(always)]
+pub fn fixed<T: Integer, S: Slot<T>>(text: &[u8], fields: &FixedFields, value: &mut S) -> Outcome
+    ensures { effect result (S.number value.new)
+        ≡ fixed_call fields.now T.TYPE text.now (S.number value.old) }
+{
+    if !fields.is_plain() {
+        return fixed_any::<T, S>(text, fields, value);
+    }
+    match value_if_short::<T>(text, &fields.plain()) {
+        Some(number) => store(Ok(number), text.len(), value),
+        None => fixed_plain::<T, S>(text, fields, value),
+    }
+}
+
+// The number in front of the text, under a description that is made field by field.
+#[inline(never)]
+fn fixed_front_any<T: Integer, S: Slot<T>>(
     text: &[u8],
     fields: &FixedFields,
     value: &mut S,
@@ -144,17 +235,45 @@ pub fn fixed_front<T: Integer, S: Slot<T>>(
         ≡ fixed_front_call fields.now T.TYPE text.now (S.number value.old) }
 {
     if !fields.are_known() {
-        return Outcome {
-            status: UNKNOWN_FIELD,
-            place: 0,
-        };
+        return UNKNOWN;
     }
-    match T::from_fixed_partial(text, &fields.format()) {
-        Ok((number, place)) => {
-            value.put(number);
-            Outcome { status: 0, place }
-        }
-        Err(error) => outcome_of(error),
+    let format = fields.format();
+    match format.error() {
+        Some(error) => refusal(error),
+        None => give_front(partial_if_left::<T>(text, &format), value),
+    }
+}
+
+// The number in front of the text, under a plain description, where it isn't had at once.
+#[inline(never)]
+fn fixed_front_plain<T: Integer, S: Slot<T>>(
+    text: &[u8],
+    fields: &FixedFields,
+    value: &mut S,
+) -> Outcome
+    requires { IsPlainFixed fields.now }
+    ensures { effect result (S.number value.new)
+        ≡ fixed_front_call fields.now T.TYPE text.now (S.number value.old) }
+{
+    give_front(partial_if_left::<T>(text, &fields.plain()), value)
+}
+
+/// The number in front of the text, under a description that may be invalid. Most are read in place, as by [`fixed`].
+#[inline(always)]
+pub fn fixed_front<T: Integer, S: Slot<T>>(
+    text: &[u8],
+    fields: &FixedFields,
+    value: &mut S,
+) -> Outcome
+    ensures { effect result (S.number value.new)
+        ≡ fixed_front_call fields.now T.TYPE text.now (S.number value.old) }
+{
+    if !fields.is_plain() {
+        return fixed_front_any::<T, S>(text, fields, value);
+    }
+    match front_at_once::<T>(text, &fields.plain()) {
+        Some(found) => give_front(Ok(found), value),
+        None => fixed_front_plain::<T, S>(text, fields, value),
     }
 }
 

@@ -3,7 +3,7 @@
 //! Its lists of fields are written from tools/fields.txt, by `make docs`.
 
 ghost use Rattle.std.specs.Int.{from_le_bytes, w64};
-ghost use Rattle.std.specs.Prelude.{◌≡◌, ◌↔◌, ◌&&◌, ◌∷◌, [], IsTrue};
+ghost use Rattle.std.specs.Prelude.{◌≡◌, ◌↔◌, ◌&&◌, ◌∷◌, [], IsTrue, false};
 ghost use Rattle.lexical_util.specs.Format.{standard};
 ghost use Rattle.jadvolni.specs.Effect.{format_status};
 ghost use Rattle.jadvolni.specs.FormatFields.{are_known, are_zeros, flag, format_of, has_bit, punctuation};
@@ -118,6 +118,19 @@ fn asks_for_ten_alone(fields: FormatFields) -> bool
     first_word(&fields) == 0x100_0000_0000_000A
 }
 
+// Whether the first eight bytes are 0.
+#[inline(always)]
+#[tactic(auto, using(crate::proofs::ZeroBytes::word_of_zeros))]
+fn asks_for_nothing_first(fields: &FormatFields) -> bool
+    ensures { result ≡ are_zeros (
+        fields.now.mantissa_radix ∷ fields.now.digit_separator ∷ fields.now.base_prefix
+        ∷ fields.now.base_suffix ∷ fields.now.case_sensitive_base_prefix
+        ∷ fields.now.case_sensitive_base_suffix ∷ fields.now.required_integer_digits
+        ∷ fields.now.required_mantissa_digits ∷ []) }
+{
+    first_word(fields) == 0
+}
+
 // Whether nothing is asked for of signs, zeros and separators: the next eight bytes.
 #[inline(always)]
 #[tactic(auto, using(crate::proofs::ZeroBytes::word_of_zeros))]
@@ -209,9 +222,22 @@ impl FormatFields {
     #[inline(always)]
     #[tactic(auto, using(crate::proofs::ZeroBytes::no_bits))]
     pub(crate) fn is_standard(&self) -> bool
-        ensures { IsTrue result → format_of self.now ≡ standard }
+        ensures format { IsTrue result → format_of self.now ≡ standard }
+        ensures known { IsTrue result → IsTrue (are_known self.now) }
     {
         asks_for_ten_alone(*self) && asks_for_no_signs(self) && asks_for_no_literals(self)
+    }
+
+    /// Whether all fields are 0.
+    #[inline(always)]
+    #[tactic(auto, using(crate::proofs::ZeroBytes::no_bits))]
+    pub(crate) fn is_zero(&self) -> bool
+        ensures radix { IsTrue result → self.now.mantissa_radix ≡ 0 }
+        ensures format { IsTrue result → format_of self.now
+            ≡ record standard { mantissa_radix = 0; required_mantissa_digits = false } }
+        ensures known { IsTrue result → IsTrue (are_known self.now) }
+    {
+        asks_for_nothing_first(self) && asks_for_no_signs(self) && asks_for_no_literals(self)
     }
 
     /// The format that the fields stand for, which may be invalid.

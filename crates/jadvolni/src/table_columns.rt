@@ -5,12 +5,14 @@ ghost use Rattle.lexical_util.specs.Format.{standard};
 ghost use Rattle.lexical_tables.specs.ByColumn.{IsUsable};
 ghost use Rattle.lexical_tables.specs.Targets.{has_bits, keeps_text, text_fault};
 ghost use Rattle.jadvolni.specs.Arrays.{array_in};
+ghost use Rattle.jadvolni.specs.Fixed.{fixed_of};
 ghost use Rattle.jadvolni.specs.FormatFields.{format_of};
 ghost use Rattle.jadvolni.specs.Tables.{bits_of, column_status, lacks_bits, put_number, put_presence, put_zero, target_of};
 
 use crate::arrays::ArrayFields;
 use crate::fixed::FixedFields;
 use crate::text_columns::{TextFields, text_fields};
+use lexical_fixed::FixedFormat;
 use lexical_parse_integer::{Error, Options};
 use lexical_tables::codes::{NOT_READ, UNKNOWN, has_bits, under_format};
 use lexical_tables::{CellText, TableColumn, put_bit};
@@ -84,6 +86,18 @@ impl ColumnFields<'_> {
         }
     }
 
+    // The description of its fixed-point numbers. A plain one isn't made field by field.
+    #[inline(always)]
+    #[tactic(auto, using(crate::proofs::ColumnNumbers::plain_is))]
+    fn fixed_format(&self) -> FixedFormat
+        ensures { result ≡ fixed_of self.now.description }
+    {
+        if self.description.is_plain() {
+            return self.description.plain();
+        }
+        self.description.format()
+    }
+
     // Puts the fixed-point number of a text into a row's place, or tells the text's fault.
     #[inline(never)]
     fn put_fixed_number(&mut self, row: usize, start: usize, text: &[u8]) -> Option<Error>
@@ -99,7 +113,7 @@ impl ColumnFields<'_> {
         let Some(_) = self.arrays.number_type() else {
             return None;
         };
-        let format = self.description.format();
+        let format = self.fixed_format();
         self.arrays.put_fixed(row, start, text, &format)
     }
 

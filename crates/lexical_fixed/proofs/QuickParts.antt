@@ -30,11 +30,11 @@ pub record IsDecimal (format : Format) : Type 0 where
   pub no_literals : format.literal_prefixes ≡ false
   pub no_octal_zeros : format.literal_octal_zero ≡ false
 
-first_false : (a b : Bool) → (a || b) ≡ false → a ≡ false
+pub first_false : (a b : Bool) → (a || b) ≡ false → a ≡ false
 first_false true b e = e
 first_false false b e = refl
 
-second_false : (a b : Bool) → (a || b) ≡ false → b ≡ false
+pub second_false : (a b : Bool) → (a || b) ≡ false → b ≡ false
 second_false true b e = cc
 second_false false b e = e
 

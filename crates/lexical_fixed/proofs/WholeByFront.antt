@@ -15,14 +15,14 @@ use Rattle.lexical_fixed.specs.Fraction.{fraction_length, front_end, has_bare_po
 use Rattle.lexical_fixed.specs.Grammar.{complete_by, complete_fixed, partial_by, fraction_fault, front_behind, in_units, integer_part, partial_fixed, units_behind, units_fault, whole_behind}
 
 -- an answer without a fault
-record IsRead (f : Fixed) (t : IntegerType) (text : List ℕ) (whole v : ℤ) (place stop : ℕ) (cannot missing : Bool) : Type 0 where
-  digits : fraction_fault f t text whole place ≡ None
-  stands : cannot ≡ false
-  there : missing ≡ false
-  zeros : units_fault f t text whole place stop ≡ None
-  value : in_units f t text whole place ≡ v
+pub record IsRead (f : Fixed) (t : IntegerType) (text : List ℕ) (whole v : ℤ) (place stop : ℕ) (cannot missing : Bool) : Type 0 where
+  pub digits : fraction_fault f t text whole place ≡ None
+  pub stands : cannot ≡ false
+  pub there : missing ≡ false
+  pub zeros : units_fault f t text whole place stop ≡ None
+  pub value : in_units f t text whole place ≡ v
 
-read_told : (f : Fixed) (t : IntegerType) (text : List ℕ) (whole v : ℤ) (place stop : ℕ) (cannot missing : Bool) → units_behind f t text whole place stop cannot missing ≡ Ok v → IsRead f t text whole v place stop cannot missing
+pub read_told : (f : Fixed) (t : IntegerType) (text : List ℕ) (whole v : ℤ) (place stop : ℕ) (cannot missing : Bool) → units_behind f t text whole place stop cannot missing ≡ Ok v → IsRead f t text whole v place stop cannot missing
 unfolding units_behind
 read_told f t text whole v place stop cannot missing = by_cases (fraction_fault f t text whole place) cannot missing (units_fault f t text whole place stop) refl refl refl refl
   where
@@ -35,7 +35,7 @@ read_told f t text whole v place stop cannot missing = by_cases (fraction_fault 
     by_cases (Some e) c m z a d n y told = absurd (cc)
 
 -- an answer with a place is that of its number
-pair_told : (r : Result ℤ Error) (stop size : ℕ) (v : ℤ) → view_of {X = ℤ} {Y = ℤ × ℕ} (λ number. (number, stop)) r ≡ Ok (v, size) → (r ≡ Ok v) × (stop ≡ size)
+pub pair_told : (r : Result ℤ Error) (stop size : ℕ) (v : ℤ) → view_of {X = ℤ} {Y = ℤ × ℕ} (λ number. (number, stop)) r ≡ Ok (v, size) → (r ≡ Ok v) × (stop ≡ size)
 pair_told (Ok x) stop size v told =
     let same : (x, stop) ≡ (v, size) = grind arith in
     (ap (λ (w : ℤ × ℕ). Ok w.0) same, ap (λ (w : ℤ × ℕ). w.1) same)

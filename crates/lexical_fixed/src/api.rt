@@ -6,7 +6,7 @@ ghost use Rattle.lexical_fixed.specs.Validity.{fixed_fault};
 
 use crate::error::FixedError;
 use crate::format::FixedFormat;
-use crate::parse::{complete, partial};
+use crate::parse::{complete, partial, read_whole};
 use lexical_util::num::Integer;
 use lexical_util::result::Result;
 
@@ -36,6 +36,23 @@ pub trait ParseFixed: Integer {
 
 impl<T: Integer> ParseFixed for T {}
 
+// The number of the whole text, under a description that isn't plain. Out of line, so that a plain one pays for none.
+#[inline(never)]
+fn whole_under_any<T: Integer>(
+    bytes: &[u8],
+    format: &FixedFormat,
+) -> std::result::Result<T, FixedError>
+    ensures { view_of T.number result ≡ complete_if_fixed format.now T.TYPE bytes.now }
+{
+    match format.error() {
+        Some(broken) => Err(FixedError::Format(broken)),
+        None => match read_whole::<T>(bytes, format) {
+            Ok(value) => Ok(value),
+            Err(error) => Err(FixedError::Text(error)),
+        },
+    }
+}
+
 /// An integer type that is read from fixed-point numbers.
 pub trait FromFixed: ParseFixed {
     /// The number that the whole text stands for, in units of the last place: with two places `12.50` is 1250.
@@ -54,15 +71,16 @@ pub trait FromFixed: ParseFixed {
     ///   the type: with two places `3` as a `u8` is 300.
     ///
     /// A description that is invalid is refused, whatever the text, by the fault of its first broken rule.
+    #[inline(always)]
     fn from_fixed(bytes: &[u8], format: &FixedFormat) -> std::result::Result<Self, FixedError>
         ensures { view_of Self.number result ≡ complete_if_fixed format.now Self.TYPE bytes.now }
     {
-        match format.error() {
-            Some(broken) => Err(FixedError::Format(broken)),
-            None => match complete::<Self>(bytes, format) {
-                Ok(value) => Ok(value),
-                Err(error) => Err(FixedError::Text(error)),
-            },
+        if !format.is_plain() {
+            return whole_under_any::<Self>(bytes, format);
+        }
+        match complete::<Self>(bytes, format) {
+            Ok(value) => Ok(value),
+            Err(error) => Err(FixedError::Text(error)),
         }
     }
 

@@ -69,13 +69,21 @@ impl FixedFormat {
     /// 3. It has no prefix, no suffix, no literal prefixes and no octal zeros; else `Affix`.
     /// 4. The point is neither a decimal digit, nor `+` or `-`, nor the separator; else `Point`.
     /// 5. There are at most 38 places; else `Places`.
-    #[inline(never)]
+    #[inline(always)]
     pub fn error(&self) -> Option<FixedFormatError>
         ensures { result ≡ fixed_fault self.now }
     {
         if self.is_plain() {
             return None;
         }
+        self.first_fault()
+    }
+
+    // The same by the rules, one after the other.
+    #[inline(never)]
+    fn first_fault(&self) -> Option<FixedFormatError>
+        ensures { result ≡ fixed_fault self.now }
+    {
         if let Some(error) = self.integer.error() {
             return Some(FixedFormatError::Integer(error));
         }
@@ -92,9 +100,11 @@ impl FixedFormat {
         }
     }
 
-    // Whether the description is valid, and its integer part has no separator: most have none, and are told at once.
+    /// Whether the description is valid and its integer part has no separator, as most have none: by few tests.
+    ///
+    /// `false` says nothing of the description.
     #[inline(always)]
-    fn is_plain(&self) -> bool
+    pub fn is_plain(&self) -> bool
         ensures { IsTrue result → fixed_fault self.now ≡ None }
     {
         let format = &self.integer;

@@ -1,7 +1,7 @@
 //! What always holds between the answers to fixed-point numbers and to integers.
 //!
 //! These calls do nothing. A proof that needs one of these laws calls it and has its clauses.
-ghost use Rattle.std.specs.Prelude.{◌≡◌, IfErr, List, Ok, length, ℕ, ℤ};
+ghost use Rattle.std.specs.Prelude.{◌≡◌, ◌≤◌, IfErr, List, Ok, length, ℕ, ℤ};
 ghost use Rattle.lexical_fixed.specs.Fixed.{Fixed};
 ghost use Rattle.lexical_fixed.specs.Grammar.{complete_fixed, partial_fixed};
 ghost use Rattle.lexical_parse_integer.specs.Grammar.{complete};
@@ -17,6 +17,24 @@ pub fn whole_by_front()
     ensures { (fixed : Fixed) (type : IntegerType) (text : List ℕ) (value : ℤ)
         → partial_fixed fixed type text ≡ Ok (value, length text)
         → complete_fixed fixed type text ≡ Ok value }
+{}
+
+/// The number of a whole text is the number in front of it, up to its end. So, by `whole_by_front`, a whole text is a
+/// number exactly where its front is that number and all of the text.
+///
+/// With two places `12.50` as a whole is 1250, and so is its front, up to 5.
+pub fn front_by_whole()
+    ensures { (fixed : Fixed) (type : IntegerType) (text : List ℕ) (value : ℤ)
+        → complete_fixed fixed type text ≡ Ok value
+        → partial_fixed fixed type text ≡ Ok (value, length text) }
+{}
+
+/// The number in front of a text ends within it: what stands behind may be read next.
+///
+/// With two places `12.50 EUR` is 1250 up to 5, and the text has nine bytes.
+pub fn front_end()
+    ensures { (fixed : Fixed) (type : IntegerType) (text : List ℕ) (value : ℤ) (place : ℕ)
+        → partial_fixed fixed type text ≡ Ok (value, place) → place ≤ length text }
 {}
 
 /// Without places the number of a whole text is the integer that it stands for, and each fault is that of the integer.

@@ -5,9 +5,11 @@ mod api;
 pub mod error;
 pub mod format;
 mod fraction;
+mod joined;
 pub mod laws;
 mod parse;
-mod quick;
+pub mod quick;
+mod short;
 
 pub use api::{FromFixed, ParseFixed};
 pub use error::{FixedError, FixedFormatError};

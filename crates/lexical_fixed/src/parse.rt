@@ -11,7 +11,7 @@ ghost use Rattle.lexical_fixed.specs.Validity.{fixed_fault};
 
 use crate::format::FixedFormat;
 use crate::fraction::{digits_from, fraction, has_point_at, read_digits, read_zeros, stands_at};
-use crate::quick::{front_at_once, whole_at_once};
+use crate::quick::{front_at_once, value_if_short, whole_at_once};
 use lexical_parse_integer::parse::ParseInteger;
 use lexical_parse_integer::{number_in_front, options};
 use lexical_util::error::Error;
@@ -194,7 +194,7 @@ fn front_behind<T: Integer>(
 // What the whole text stands for, where the quick way left it.
 #[tactic(auto, unfolding(crate::specs::Grammar::complete_fixed))]
 #[inline(never)]
-fn read_whole<T: Integer>(text: &[u8], format: &FixedFormat) -> Result<T>
+pub(crate) fn read_whole<T: Integer>(text: &[u8], format: &FixedFormat) -> Result<T>
     requires valid { IsNone (fixed_fault format.now) }
     ensures { view_of T.number result ≡ complete_fixed format.now T.TYPE text.now }
 {
@@ -204,10 +204,10 @@ fn read_whole<T: Integer>(text: &[u8], format: &FixedFormat) -> Result<T>
     }
 }
 
-// What the front of the text stands for, and the place at which reading stops, where the quick way left it.
+/// The number in front of the text and the place at which reading stops, for a text that `front_at_once` has left.
 #[tactic(auto, unfolding(crate::specs::Grammar::partial_fixed))]
 #[inline(never)]
-fn read_front<T: Integer>(text: &[u8], format: &FixedFormat) -> Result<(T, usize)>
+pub fn partial_if_left<T: Integer>(text: &[u8], format: &FixedFormat) -> Result<(T, usize)>
     requires valid { IsNone (fixed_fault format.now) }
     ensures { view_of (with_place T.number) result ≡ partial_fixed format.now T.TYPE text.now }
 {
@@ -217,15 +217,36 @@ fn read_front<T: Integer>(text: &[u8], format: &FixedFormat) -> Result<(T, usize
     }
 }
 
-// What the whole text stands for.
+/// The number that the whole text stands for, for a text that `value_if_short` has left.
 #[inline(always)]
-pub(crate) fn complete<T: Integer>(text: &[u8], format: &FixedFormat) -> Result<T>
+pub fn complete_if_not_short<T: Integer>(text: &[u8], format: &FixedFormat) -> Result<T>
     requires valid { IsNone (fixed_fault format.now) }
     ensures { view_of T.number result ≡ complete_fixed format.now T.TYPE text.now }
 {
     match whole_at_once::<T>(text, format) {
         Some(value) => Ok(value),
         None => read_whole::<T>(text, format),
+    }
+}
+
+// The same out of line, so that a short text pays for none of it.
+#[inline(never)]
+fn read_not_short<T: Integer>(text: &[u8], format: &FixedFormat) -> Result<T>
+    requires valid { IsNone (fixed_fault format.now) }
+    ensures { view_of T.number result ≡ complete_fixed format.now T.TYPE text.now }
+{
+    complete_if_not_short::<T>(text, format)
+}
+
+// What the whole text stands for.
+#[inline(always)]
+pub(crate) fn complete<T: Integer>(text: &[u8], format: &FixedFormat) -> Result<T>
+    requires valid { IsNone (fixed_fault format.now) }
+    ensures { view_of T.number result ≡ complete_fixed format.now T.TYPE text.now }
+{
+    match value_if_short::<T>(text, format) {
+        Some(value) => Ok(value),
+        None => read_not_short::<T>(text, format),
     }
 }
 
@@ -237,6 +258,6 @@ pub(crate) fn partial<T: Integer>(text: &[u8], format: &FixedFormat) -> Result<(
 {
     match front_at_once::<T>(text, format) {
         Some(found) => Ok(found),
-        None => read_front::<T>(text, format),
+        None => partial_if_left::<T>(text, format),
     }
 }

@@ -1,5 +1,8 @@
-// The quick way: a number whose integer part is digits alone, and whose fraction is short, in one walk. Its `None` says
-// nothing of the text.
+//! The parsers in two halves, under a valid description: for this crate, and for calls from C.
+//!
+//! The first half has at once what most texts are, and its `None` says nothing of a text. The second half, for what the first
+//! one left, has the answer. Up to seven digits around a point are read by one word. Other texts are read in one walk, where the
+//! integer part is digits alone and the fraction is short.
 ghost use Rattle.std.specs.Prelude.{◌≡◌, ◌==◌, ◌≤◌, ◌<◌, ◌+◌, ◌^◌, if◌then◌else◌, IfSome, IsNone, Ok, length, pos, true};
 ghost use Rattle.lexical_util.specs.Number.{HasSign, is_number, mul_add};
 ghost use Rattle.lexical_parse_integer.specs.Answer.{with_place};
@@ -11,6 +14,8 @@ ghost use Rattle.lexical_fixed.specs.Validity.{fixed_fault};
 use crate::format::FixedFormat;
 use crate::fraction::stands_at;
 use crate::parse::is_negative;
+pub use crate::parse::{complete_if_not_short, partial_if_left};
+pub use crate::short::value_if_short;
 use lexical_digits::fronts::number_in_front;
 use lexical_digits::values::value_to_16;
 use lexical_parse_integer::laws::grammar::front_digits;
@@ -168,9 +173,9 @@ fn plain_part<T: Integer>(text: &[u8], format: &FixedFormat) -> Option<(T, usize
     Some((whole, place))
 }
 
-// The number in front of the text, and the place at which reading stops.
+/// The number in front of the text, and the place at which reading stops.
 #[inline(always)]
-pub(crate) fn front_at_once<T: Integer>(text: &[u8], format: &FixedFormat) -> Option<(T, usize)>
+pub fn front_at_once<T: Integer>(text: &[u8], format: &FixedFormat) -> Option<(T, usize)>
     requires valid { IsNone (fixed_fault format.now) }
     ensures { IfSome result
         (λ found. partial_fixed format.now T.TYPE text.now ≡ Ok (with_place T.number found)) }

@@ -1,5 +1,5 @@
 -- Texts whose doubled quotes are folded.
-use Rattle.std.specs.Prelude.{◌≡◌, List, codes, []}
+use Rattle.std.specs.Prelude.{◌≡◌, codes, []}
 use Rattle.std.proofs.Common.{refl}
 use Rattle.lexical_tables.specs.Folded.{folded, put_if_room}
 

@@ -83,6 +83,26 @@ folded_grows text (suc more) place =
           ∙ length-append (folded_to text (place + more)) last,
     )
 
+short_to : (text : List ℕ) (place : ℕ) → length (folded_to text place) ≤ place
+short_to text zero = omega arith
+short_to text (suc place) =
+    let one : suc place ≡ place + 1 = omega arith in
+    let last = cond (is_second text place) [] (get_or text place 0 ∷ []) in
+    omega (
+      arith,
+      short_to text place,
+      at_most_one (is_second text place),
+      ap (λ k. length (folded_to text k)) one ∙ ap length (folded_next text place) ∙ length-append (folded_to text place) last,
+    )
+  where
+    at_most_one : (t : Bool) → length (cond t [] (get_or text place 0 ∷ [])) ≤ 1
+    at_most_one true = omega arith
+    at_most_one false = omega arith
+
+-- a text has no fewer bytes
+pub folded_short : (text : List ℕ) → length (folded text) ≤ length text
+folded_short text = omega (arith, short_to text (length text), ap length (folded_is text))
+
 -- ---- the loops
 
 -- So many bytes were read, and they are so many, folded.

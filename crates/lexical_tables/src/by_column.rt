@@ -6,7 +6,7 @@ ghost use Rattle.lexical_tables.specs.Cells.{Kind, answer_as, quote_fault, view_
 ghost use Rattle.lexical_tables.specs.Quotes.{quote};
 ghost use Rattle.lexical_tables.specs.RowSoFar.{IsRowDone, IsRowPut, cells_behind};
 ghost use Rattle.lexical_tables.specs.Rows.{behind_piece, first_row, view_of_row};
-ghost use Rattle.lexical_tables.specs.Targets.{TargetView, put_text, text_fault};
+ghost use Rattle.lexical_tables.specs.Targets.{TargetView, keeps_text, put_text, text_fault};
 
 use crate::answers::{CellFault, Table, TableError};
 use crate::cells::{column_count, lacks_cell, next_cell};
@@ -58,6 +58,37 @@ fn cell_fault(
     quote_fault(dialect.has_quotes, is_number, cell)
 }
 
+// Reads a cell in its column of texts, if its quotes are in place: it holds the mark, or a text, and where that stands goes to
+// the row's place. Why out of line: docs/DECISIONS.md, code.
+#[inline(never)]
+fn read_text<C: TableColumn>(
+    target: &mut C,
+    row: usize,
+    cell: Cell<'_>,
+    dialect: &Dialect<'_>,
+) -> Option<CellFault>
+    requires usable { IsUsable (row + 1) (C.target target.old) }
+    requires text { keeps_text (C.target target.old) ≡ true }
+    requires front { cell.text.now ≡ take (length cell.text.now) cell.ahead.now }
+    requires fits { cell.start + length cell.text.now < 2 ^ 64 }
+    ensures fault { result ≡ fault_in (answer_as dialect.now
+        (option_map kind_of (C.target target.old)) (view_of_cell cell.entry)) }
+    ensures target { C.target target.new ≡ option_map (put_read row (answer_as dialect.now
+        (option_map kind_of (C.target target.old)) (view_of_cell cell.entry)))
+        (C.target target.old) }
+{
+    if let Some(fault) = quote_fault(dialect.has_quotes, false, cell) {
+        return Some(fault);
+    }
+    let held = content(cell, dialect.has_quotes, false);
+    if target.may_miss() && held.text == dialect.missing {
+        target.put_missing(row);
+        return None;
+    }
+    target.put_text(row, text_of(held, dialect.has_quotes));
+    None
+}
+
 // Reads a cell in its column, if its quotes are in place: it holds the mark, a number or a text, which goes to the row's place.
 #[inline(always)]
 fn read_value<C: TableColumn>(
@@ -80,17 +111,15 @@ fn read_value<C: TableColumn>(
         (option_map kind_of (C.target target.old)) (view_of_cell cell.entry)))
         (C.target target.old) }
 {
-    let is_number = !target.is_text();
-    if let Some(fault) = cell_fault(dialect, is_number, has_no_quote, cell) {
+    if target.is_text() {
+        return read_text(target, row, cell, dialect);
+    }
+    if let Some(fault) = cell_fault(dialect, true, has_no_quote, cell) {
         return Some(fault);
     }
-    let held = content(cell, dialect.has_quotes, is_number && dialect.allows_blanks);
+    let held = content(cell, dialect.has_quotes, dialect.allows_blanks);
     if target.may_miss() && held.text == dialect.missing {
         target.put_missing(row);
-        return None;
-    }
-    if !is_number {
-        target.put_text(row, text_of(held, dialect.has_quotes));
         return None;
     }
     match read_held(target, row, held, options) {

@@ -34,8 +34,8 @@ pub enum Layout<'a> {
 pub struct Dialect<'a> {
     /// How the cells of a row are found.
     pub layout: Layout<'a>,
-    /// Whether a carriage return stands before each line feed that ends a row. Without it a return is a byte of its
-    /// cell.
+    /// Whether a carriage return stands before each line feed that ends a row. Without it, and without `allows_returns`, a
+    /// return is a byte of its cell.
     pub has_returns: bool,
     /// Whether cells may stand within quotes, `"`, as RFC 4180 says. A quote that is the separator parts cells.
     pub has_quotes: bool,

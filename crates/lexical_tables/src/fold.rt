@@ -38,11 +38,12 @@ fn folded_size(text: &[u8]) -> usize
     size
 }
 
-// Writes a text with each doubled quote as one, where there is room for it.
+// Writes a text with each doubled quote as one, where there is room for it: how many bytes that has.
 #[inline(always)]
-fn put_folded(text: &[u8], to: &mut [u8])
+fn put_folded(text: &[u8], to: &mut [u8]) -> usize
     requires room { length (folded text.now) ≤ length to.old }
-    ensures { to.new ≡ folded text.now ++ drop (length (folded text.now)) to.old }
+    ensures size { result ≡ length (folded text.now) }
+    ensures written { to.new ≡ folded text.now ++ drop (length (folded text.now)) to.old }
 {
     let mut size = 0;
     let mut is_odd = false;
@@ -55,22 +56,26 @@ fn put_folded(text: &[u8], to: &mut [u8])
         is_odd = is_odd_behind(text[place], is_odd);
         place += 1;
     }
+    size
 }
 
-/// Writes a text with each doubled quote as one, and answers how many bytes that has: never more than the text.
+/// Writes a text with each doubled quote as one, and answers how many bytes that has: no more than the text.
 ///
 /// It is for what a cell holds within its quotes. Where the slice has too little room nothing is written, and the answer
 /// is what is needed. What lies behind the bytes that are written is as it was. A quote that isn't doubled stays, so of three
 /// in a row two are left.
 ///
 /// Of `5"" nails` it writes `5" nails`, and answers 8.
+#[tactic(auto, using(crate::proofs::FoldSteps::folded_short))]
 pub fn fold_quotes(text: &[u8], to: &mut [u8]) -> usize
     ensures size { result ≡ length (folded text.now) }
     ensures written { to.new ≡ put_if_room (folded text.now) to.old }
 {
-    let size = folded_size(text);
-    if size <= to.len() {
-        put_folded(text, to);
+    if to.len() < text.len() {
+        let size = folded_size(text);
+        if to.len() < size {
+            return size;
+        }
     }
-    size
+    put_folded(text, to)
 }

@@ -3,18 +3,18 @@ use Rattle.std.specs.Prelude.{[], ◌∷◌, ◌++◌, codes, pos, Some, None, O
 use Rattle.std.proofs.Common.{refl}
 use Rattle.lexical_util.specs.declared.error.Error.TheVariants.{Overflow, Underflow, InvalidDigit, Empty, InvalidPositiveSign, InvalidLeadingZeros}
 use Rattle.lexical_parse_integer.specs.Computed.{grammar}
+use Rattle.lexical_fixed.specs.Computed.{fixed_grammar}
 use Rattle.uses.specs.declared.config.ValueError.TheVariants.{Hexadecimal, Decimal}
-use Rattle.uses.specs.declared.fixed_point.FixedPointError.TheVariants as fixed_point
 use Rattle.uses.specs.declared.fixed_width.RowError.TheVariants.{Length, Column}
 use Rattle.uses.specs.declared.json.NumberError.TheVariants as json
 use Rattle.uses.specs.declared.json.Part.TheVariants.{Whole, Unfinished}
 use Rattle.uses.specs.declared.ledger.LedgerError.TheVariants as ledger
 use Rattle.uses.specs.declared.ledger.LineError.TheVariants.{NoAmount, Amount}
 use Rattle.uses.specs.Config.{value_in}
-use Rattle.uses.specs.FixedPoint.{fixed_point_in}
 use Rattle.uses.specs.FixedWidth.{values_in}
 use Rattle.uses.specs.Json.{part_in}
 use Rattle.uses.specs.Ledger.{entry_in, total_in}
+use Rattle.uses.specs.Price.{price_in}
 use Rattle.uses.specs.Source.{c_in, python_in}
 use Rattle.uses.specs.Toml.{integer_in, setting_in}
 use Rattle.library_tests.proofs.Tables.{Reads, minus}
@@ -46,61 +46,35 @@ broken_values_name_their_notation : Reads value_in (
 unfolding grammar
 broken_values_name_their_notation = refl
 
--- ---- numbers with two digits behind their point, and with others
+-- ---- prices, and what stands behind them
 
-prices_are_read_in_cents : Reads (fixed_point_in 2) (
-    (codes "12.5", Ok (pos 1250, 4)) ∷
-    (codes "12", Ok (pos 1200, 2)) ∷
-    (codes "12.05 EUR", Ok (pos 1205, 5)) ∷
-    (codes "-0.05", Ok (minus 5, 5)) ∷
-    (codes "+7.00;", Ok (pos 700, 5)) ∷
-    (codes "-3x", Ok (minus 300, 2)) ∷
-    (codes "92233720368547758.07", Ok (pos 9223372036854775807, 20)) ∷
-    (codes "-92233720368547758.08", Ok (minus 9223372036854775808, 21)) ∷
+prices_are_read_in_cents : Reads price_in (
+    (codes "12,05 EUR", Ok (pos 1205, codes " EUR")) ∷
+    (codes "12,50", Ok (pos 1250, codes "")) ∷
+    (codes "-0,05;", Ok (minus 5, codes ";")) ∷
+    (codes "+7,00x", Ok (pos 700, codes "x")) ∷
+    (codes "1.234,50 EUR", Ok (pos 123450, codes " EUR")) ∷
+    (codes "-1.234.567,89", Ok (minus 123456789, codes "")) ∷
+    (codes "92233720368547758,07", Ok (pos 9223372036854775807, codes "")) ∷
     [])
-unfolding grammar
+unfolding grammar fixed_grammar
 prices_are_read_in_cents = refl
 
-no_digit_behind_the_point : Reads (fixed_point_in 0) (
-    (codes "5", Ok (pos 5, 1)) ∷
+broken_prices_say_where : Reads price_in (
+    (codes "", Err (Empty 0)) ∷
+    (codes "EUR", Err (Empty 0)) ∷
+    (codes ",50", Err (Empty 0)) ∷
+    (codes "-,50", Err (Empty 1)) ∷
+    (codes "12 EUR", Err (Empty 2)) ∷
+    (codes "12, EUR", Err (Empty 3)) ∷
+    (codes "12,5 EUR", Err (Empty 4)) ∷
+    (codes "12.50", Err (Empty 5)) ∷
+    (codes "12,505", Err (InvalidDigit 5)) ∷
+    (codes "92233720368547758,08", Err (Overflow 19)) ∷
+    (codes "9223372036854775808,00", Err (Overflow 18)) ∷
     [])
-unfolding grammar
-no_digit_behind_the_point = refl
-
-four_digits_behind_the_point : Reads (fixed_point_in 4) (
-    (codes "0.0001", Ok (pos 1, 6)) ∷
-    [])
-unfolding grammar
-four_digits_behind_the_point = refl
-
-eighteen_digits_behind_the_point : Reads (fixed_point_in 18) (
-    (codes "-9.223372036854775808", Ok (minus 9223372036854775808, 21)) ∷
-    [])
-unfolding grammar
-eighteen_digits_behind_the_point = refl
-
-broken_prices_say_where : Reads (fixed_point_in 2) (
-    (codes "", Err (fixed_point.Whole (Empty 0))) ∷
-    (codes "EUR", Err (fixed_point.Whole (InvalidDigit 0))) ∷
-    (codes ".5", Err (fixed_point.Whole (InvalidDigit 0))) ∷
-    (codes "-.5", Err (fixed_point.Whole (InvalidDigit 1))) ∷
-    (codes "9223372036854775808", Err (fixed_point.Whole (Overflow 18))) ∷
-    (codes "12.505", Err (fixed_point.TooManyDigits 5)) ∷
-    (codes "92233720368547758.08", Err (fixed_point.OutOfRange 20)) ∷
-    (codes "-92233720368547759 EUR", Err (fixed_point.OutOfRange 18)) ∷
-    [])
-unfolding grammar
+unfolding grammar fixed_grammar
 broken_prices_say_where = refl
-
-broken_fractions_say_where : Reads (fixed_point_in 2) (
-    (codes "12.", Err (fixed_point.Fraction 3 (Empty 0))) ∷
-    (codes "12. EUR", Err (fixed_point.Fraction 3 (InvalidDigit 0))) ∷
-    (codes "12.-5", Err (fixed_point.Fraction 3 (InvalidDigit 0))) ∷
-    (codes "12.+5", Err (fixed_point.Fraction 3 (InvalidPositiveSign 0))) ∷
-    (codes "12.18446744073709551616", Err (fixed_point.Fraction 3 (Overflow 19))) ∷
-    [])
-unfolding grammar
-broken_fractions_say_where = refl
 
 -- ---- rows of a station's number, a day's number, and the tenths of a degree
 

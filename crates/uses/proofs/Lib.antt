@@ -1,7 +1,5 @@
 -- The lemmas of the proofs, a file for each subject.
 pub mod Columns
 pub mod EachLemmas
-pub mod Scaling
 pub mod Settled
 pub mod Sums
-pub mod Within

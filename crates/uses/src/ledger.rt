@@ -1,10 +1,10 @@
 //! Ledgers: a line for each entry, with its name, a space or a tab, and its amount in cents.
 
-ghost use Rattle.std.specs.Prelude.{◌≡◌, ◌<◌, length, position, IfSome};
+ghost use Rattle.std.specs.Prelude.{◌≡◌, ◌<◌, length, position, true, IfSome};
+ghost use Rattle.lexical_util.specs.Number.{integer_type, number_if_fits};
 ghost use Rattle.lexical_parse_integer.specs.Answer.{view_of};
 ghost use Rattle.uses.specs.Ledger.{cents_in, entry_in, is_blank, view_of_entry, total_in};
 
-use crate::narrow::as_i64;
 use lexical_parse_integer::{Error, FromLexical};
 
 /// One line of a ledger.
@@ -70,6 +70,13 @@ fn cents(line: &[u8]) -> Result<i64, LineError>
         return Ok(0);
     }
     Ok(Entry::of(line)?.cents)
+}
+
+// The number as an `i64`, and `None` where it leaves `i64`.
+fn as_i64(number: i128) -> Option<i64>
+    ensures { result ≡ number_if_fits (integer_type 64 true) number }
+{
+    i64::try_from(number).ok()
 }
 
 /// The sum of the amounts in a ledger's lines, which are those of `str::lines`; an empty line has

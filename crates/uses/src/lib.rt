@@ -2,10 +2,9 @@
 #![tactic(auto)]
 
 pub mod config;
-pub mod fixed_point;
 pub mod fixed_width;
 pub mod json;
 pub mod ledger;
-mod narrow;
+pub mod price;
 pub mod source;
 pub mod toml;

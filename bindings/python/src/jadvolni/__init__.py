@@ -9,6 +9,8 @@
     (12, 2)
     >>> jadvolni.parse_literal("0xFFull;", jadvolni.formats.C)
     (255, 'ull', 7)
+    >>> jadvolni.parse("-1.234,50", jadvolni.Fixed("i64", places=2, point=",", group="."))
+    -123450
     >>> list(jadvolni.parse_column(b"12,7,", "u64", b","))
     [12, 7]
     >>> jadvolni.parse(b"18446744073709551616", "u64")
@@ -24,6 +26,7 @@ from ._core import (
     FormatError,
     ParseError,
     __version__,
+    line_column,
     parse,
     parse_column,
     parse_front,
@@ -31,6 +34,7 @@ from ._core import (
     parse_partial,
 )
 from . import formats
+from ._fixed import Fixed
 from ._format import Format
 from ._blocks import iter_column
 from ._numpy import numpy_column
@@ -40,6 +44,7 @@ from ._tables import iter_table, parse_table, read_table
 
 __all__ = [
     "Column",
+    "Fixed",
     "Format",
     "FormatError",
     "ParseError",
@@ -49,6 +54,7 @@ __all__ = [
     "formats",
     "iter_column",
     "iter_table",
+    "line_column",
     "numpy_column",
     "parse",
     "parse_column",

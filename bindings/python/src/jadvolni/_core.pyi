@@ -5,6 +5,7 @@ from typing import Any, Optional, Protocol, SupportsIndex, Union
 
 from _typeshed import ReadableBuffer
 
+from ._fixed import Fixed
 from ._format import Format
 
 Text = Union[str, ReadableBuffer]
@@ -30,7 +31,13 @@ class ParseError(ValueError):
     field: Any
     start: Any
     row: Any
+    line: Any
     column: Any
+    row_start: Any
+    row_stop: Any
+    # The column's name, as the caller has it, and the first bytes of the cell.
+    name: Any
+    text: Any
 
 class FormatError(ValueError):
     kind: str
@@ -38,14 +45,14 @@ class FormatError(ValueError):
 
 def parse(
     text: Text,
-    type: NumberType = "i64",
+    type: Union[NumberType, Fixed] = "i64",
     format: Optional[Format] = None,
     *,
     min: Optional[SupportsIndex] = None,
     max: Optional[SupportsIndex] = None,
 ) -> int: ...
 def parse_front(
-    text: Text, type: NumberType = "i64", format: Optional[Format] = None
+    text: Text, type: Union[NumberType, Fixed] = "i64", format: Optional[Format] = None
 ) -> tuple[int, int]: ...
 def parse_partial(
     text: Text, type: NumberType = "i64", format: Optional[Format] = None
@@ -57,6 +64,7 @@ def parse_column(
     separator: Text = b"\n",
     format: Optional[Format] = None,
 ) -> array[int]: ...
+def line_column(text: Text, place: SupportsIndex) -> tuple[int, int]: ...
 def _parse_part(
     text: Text,
     type: NumberType,
@@ -67,24 +75,26 @@ def _parse_part(
 ) -> array[int]: ...
 def _parse_table(
     text: Text,
-    place: int,
+    start: int,
+    stop: int,
     is_last: bool,
     how: tuple[Any, ...],
     columns: tuple[Optional[tuple[Any, Any, NumberType, Optional[Format]]], ...],
     at: int,
     rows: int,
-    row: int,
-    start: int,
+    bad: int,
     /,
-) -> tuple[int, int]: ...
+) -> tuple[int, int, int, tuple[tuple[Any, ...], ...]]: ...
 def _arrow_schema(columns: tuple[Any, ...], is_table: bool, /) -> object: ...
 def _arrow_array(columns: tuple[Any, ...], is_table: bool, rows: int, /) -> object: ...
 def _arrow_stream(columns: tuple[Any, ...], rows: int, /) -> object: ...
 def _keep_memory(size: int, /) -> None: ...
 def _text_size(text: Text, /) -> int: ...
 def _move_bits(to: Any, at: int, bits: Any, count: int, /) -> None: ...
+def _lines(text: Text, start: int, stop: int, /) -> int: ...
 def _row_ends(text: Text, has_quotes: bool, is_within: bool, /) -> tuple[int, int, bool]: ...
 def _row_count(text: Text, record: int) -> int: ...
 def _row_stops(text: Text, count: int, has_quotes: bool, record: int) -> list[int]: ...
 def _array_code(type: NumberType) -> str: ...
 def _check_format(format: Format) -> None: ...
+def _check_fixed(fixed: Fixed) -> None: ...

@@ -2,34 +2,30 @@
 
 from __future__ import annotations
 
-from typing import Iterable, Iterator, NamedTuple
+from typing import Iterable, Iterator, NamedTuple, Optional
 
-from ._core import ParseError, _row_ends
-from ._reader import Part, Reader
+from ._core import _row_ends
+from ._faults import Fault, Part
+from ._reader import Reader
 from ._rows import Rows
 
 
 class Texts(NamedTuple):
     """Whole rows of a file: the one that a block goes on with, and the others of the block.
 
-    They start at a byte of the file. The block has so many bytes, and the last one none.
+    The block has so many bytes, and the last one none.
     """
 
-    start: int
-    texts: list[bytes | memoryview]
+    parts: list[tuple[bytes | memoryview, Part]]
     block: int
-
-    @property
-    def size(self) -> int:
-        """How many bytes they have."""
-        return sum(map(len, self.texts))
 
 
 class _Rest:
     """The row that the blocks so far end in: its bytes, and whether they end within quotes."""
 
-    def __init__(self, reader: Reader, size: int, start: int) -> None:
-        self.reader, self.size, self.start = reader, size, start
+    def __init__(self, reader: Reader, size: int, before: Part) -> None:
+        self.reader, self.size = reader, size
+        self.start, self.line = before.start, before.line
         self.bytes, self.is_within = bytearray(), False
 
     def ends(self, block: bytes) -> tuple[int, int]:
@@ -45,18 +41,27 @@ class _Rest:
     def add(self, block: bytes) -> Texts:
         """The rows that end in a block."""
         first, last = self.ends(block)
-        found = Texts(self.start, [], len(block))
+        found = Texts([], len(block))
         if last and self.bytes:
             self.bytes += block[:first]
-            found.texts.append(bytes(self.bytes))
+            found.parts.append(self._part(bytes(self.bytes)))
             self.bytes = bytearray()
         else:
             first = 0
         if first < last:
-            found.texts.append(memoryview(block)[first:last])
-        self.start += found.size
+            found.parts.append(self._part(memoryview(block)[first:last]))
         self.bytes += memoryview(block)[last:]
         return found
+
+    def _part(self, text: bytes | memoryview) -> tuple[bytes | memoryview, Part]:
+        """Rows with what stands before them, that behind them more will stand."""
+        part = Part(False, self.start, self.line)
+        self.start, self.line = self.start + len(text), self.line + self.reader.lines_in(text)
+        return text, part
+
+    def last(self) -> Texts:
+        """What is left behind the last block."""
+        return Texts([(bytes(self.bytes), Part(True, self.start, self.line))], 0)
 
     def ask_short(self) -> None:
         """Asks that the row isn't too long, and tells of the quote that may have made it so."""
@@ -71,40 +76,35 @@ class _Rest:
 
 
 def whole_rows(
-    blocks: Iterable[bytes], reader: Reader, size: int, start: int
+    blocks: Iterable[bytes], reader: Reader, size: int, before: Part
 ) -> Iterator[Texts]:
     """The rows of a file's blocks, as they end there, and behind the last block what is left.
 
-    The first one starts at a byte of the file, as behind a header. A row of more than `size` bytes
-    is a ValueError, so that no more than two blocks are held.
+    Something may stand before them, as a header. A row of more than `size` bytes is a ValueError,
+    so that no more than two blocks are held.
     """
-    rest = _Rest(reader, size, start)
+    rest = _Rest(reader, size, before)
     for block in blocks:
         if block:
             yield rest.add(block)
             rest.ask_short()
-    yield Texts(rest.start, [bytes(rest.bytes)], 0)
+    yield rest.last()
 
 
-def read_texts(reader: Reader, texts: Texts, most: int, row: int) -> Iterator[Rows]:
-    """The rows of texts, so many at once, behind others. Those before a fault come first."""
-    if not texts.texts:
-        return
-    rows, start, fault = Rows(reader, most), texts.start, None
-    try:
-        for text in texts.texts:
-            place = 0
-            while True:
-                part = Part(texts.block == 0, row + rows.count, start + place)
-                place = rows.read(text, part, place)
-                if not rows.is_full():
-                    break
-                yield rows
-                rows, row = Rows(reader, most), row + rows.count
-            start += len(text)
-    except ParseError as error:
-        fault = error
-    if rows.count:
+def read_texts(
+    reader: Reader, texts: Texts, most: int, row: int, kept: Optional[list[Fault]] = None
+) -> Iterator[Rows]:
+    """The rows of texts, so many at once, behind others. The last ones may have a fault."""
+    rows = Rows(reader, most, row, kept)
+    for text, part in texts.parts:
+        place = 0
+        while True:
+            place = rows.read(text, part, place)
+            if rows.fault or not rows.is_full():
+                break
+            yield rows
+            rows = Rows(reader, most, rows.end, kept)
+        if rows.fault:
+            break
+    if rows.end > rows.row or rows.fault:
         yield rows
-    if fault:
-        raise fault

@@ -4,7 +4,7 @@ from __future__ import annotations
 
 import dataclasses
 import operator
-from typing import Optional, Union
+from typing import TYPE_CHECKING, Any, Optional, Union
 
 from ._core import _check_format
 
@@ -25,6 +25,18 @@ _NEEDED = (
     ("case_sensitive_base_prefix", _PREFIXES),
     ("case_sensitive_base_suffix", ("base_suffix",)),
 )
+
+
+def byte_of_punctuation(name: str, value: object, none: str = "") -> Optional[int]:
+    """The byte of an argument of a name, or None for None, where that may be."""
+    if value is None and none:
+        return None
+    if not isinstance(value, (bytes, str)):
+        raise TypeError(f"{name} has to be one byte{none}, and not {type(value).__name__}")
+    encoded = value.encode() if isinstance(value, str) else value
+    if len(encoded) != 1:
+        raise ValueError(f"{name} has to be one byte{none}, and {value!r} has {len(encoded)}")
+    return encoded[0]
 
 
 @dataclasses.dataclass(frozen=True, kw_only=True, repr=False, eq=False)
@@ -108,28 +120,17 @@ class Format:
         values = {name: getattr(self, name) for name in _DEFAULTS}
         return {name: value for name, value in values.items() if value is not _DEFAULTS[name]}
 
-    def _byte(self, name: str) -> Optional[int]:
-        """The byte of a separator, prefix or suffix, or None where the format has none."""
-        value = getattr(self, name)
-        if value is None:
-            return None
-        if not isinstance(value, (bytes, str)):
-            raise TypeError(f"{name} has to be one byte or None, and not {type(value).__name__}")
-        encoded = value.encode() if isinstance(value, str) else value
-        if len(encoded) != 1:
-            raise ValueError(f"{name} has to be one byte or None, and {value!r} has {len(encoded)}")
-        return encoded[0]
-
     def _bytes(self) -> bytes:
         """The format as the library has it: the bytes of a `jadvolni_format`."""
         numbers = {name: getattr(self, name) for name in _DEFAULTS}
-        punctuation = {name: self._byte(name) for name in _PUNCTUATION}
+        punctuation = {name: byte_of_punctuation(name, getattr(self, name), " or None")
+                       for name in _PUNCTUATION}
         # A radix that is no byte is refused as 0 is.
         radix = self.mantissa_radix if 0 <= self.mantissa_radix <= 255 else 0
-        values = {**numbers, **punctuation, "mantissa_radix": radix}.values()
+        values: dict[str, Optional[int]] = {**numbers, **punctuation, "mantissa_radix": radix}
         given = enumerate(punctuation.values())
         nul_is_punctuation = sum(1 << bit for bit, byte in given if byte == 0)
-        fields = bytes([*(value or 0 for value in values), nul_is_punctuation])
+        fields = bytes([*(value or 0 for value in values.values()), nul_is_punctuation])
         return fields.ljust(32, b"\0")
 
     def __repr__(self) -> str:
@@ -144,8 +145,14 @@ class Format:
     def __hash__(self) -> int:
         return hash(self._fields)
 
+    if TYPE_CHECKING:
 
-def _integer(name: str, value: object) -> int:
+        @property
+        def _fields(self) -> bytes:
+            """The format as the library has it."""
+
+
+def _integer(name: str, value: Any) -> int:
     """An integer of any type, as one of NumPy, as an int."""
     try:
         return operator.index(value)

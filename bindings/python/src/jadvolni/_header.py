@@ -7,6 +7,7 @@ from itertools import chain
 from typing import TYPE_CHECKING, Iterator, Sequence
 
 from ._core import _row_ends
+from ._faults import Part
 
 if TYPE_CHECKING:
     from ._core import Text
@@ -68,8 +69,8 @@ def ask_header(how: How, header: bool) -> None:
 
 def read_header(
     blocks: Iterator[bytes], how: How, size: int
-) -> tuple[list[str], Iterator[bytes], int]:
-    """The names of a header, the blocks behind it, and how many bytes it has.
+) -> tuple[list[str], Iterator[bytes], Part]:
+    """The names of a header, the blocks behind it, and what it has in front of them.
 
     A line feed within quotes doesn't end it, unless they never close.
     """
@@ -90,7 +91,8 @@ def read_header(
     if not end and is_within and b"\n" in line:
         end = line.index(b"\n") + 1
         line, rest = line[:end], memoryview(line[end:])
-    return names_of(bytes(line), how), chain([bytes(rest)] if rest else [], blocks), len(line)
+    before = Part(start=len(line), line=line.count(b"\n"))
+    return names_of(bytes(line), how), chain([bytes(rest)] if rest else [], blocks), before
 
 
 def _quote_in(line: bytes, is_within: bool) -> str:

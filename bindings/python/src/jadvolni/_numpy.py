@@ -2,7 +2,7 @@
 
 from __future__ import annotations
 
-from typing import TYPE_CHECKING, Optional
+from typing import TYPE_CHECKING, Any, Optional
 
 from ._core import parse_column
 from ._format import Format
@@ -18,7 +18,7 @@ def numpy_column(
     type: NumberType = "i64",
     separator: Text = b"\n",
     format: Optional[Format] = None,
-) -> numpy.ndarray:
+) -> numpy.ndarray[Any, Any]:
     """The numbers of the text's fields, as a NumPy array.
 
     It has the memory of the array that `parse_column` gives: nothing is copied. It raises what

@@ -7,13 +7,14 @@ from array import array
 from typing import TYPE_CHECKING, Any, Iterable, Mapping, NamedTuple, Optional, Union
 
 from ._arrays import new_array, numpy_or_none, zeros
-from ._core import _array_code, _parse_table
+from ._core import _array_code, _parse_table, _row_count, _text_size
+from ._faults import AtFault, Fault, Part, error_of
 from ._format import Format, _integer
 from ._header import ask_names
 from ._table import Sparse, Table
 
 if TYPE_CHECKING:
-    from ._core import NumberType, Text
+    from ._core import NumberType, ParseError, Text
 
     # What is read of a column: nothing, numbers of a type, or what a Column says.
     Columns = Mapping[str, Optional[Union[NumberType, "Column"]]]
@@ -40,12 +41,9 @@ class How(NamedTuple):
     is_records: bool = False
 
 
-class Part(NamedTuple):
-    """A part of a text: whether it is the last one, and what stands before it."""
-
-    is_last: bool = True
-    row: int = 0
-    start: int = 0
+# Where bad rows are told, so many bytes are read at once, and so many are told at most.
+_WINDOW = 1 << 18
+_TOLD = 4096
 
 
 def ask_type(name: str, value: object, kind: Any, wanted: str) -> None:
@@ -75,7 +73,9 @@ def pair_of(values: Any) -> tuple[Any, Any]:
 class Reader:
     """How a table is written, and what is read of it."""
 
-    def __init__(self, columns: Columns, how: How, names: Optional[list[str]] = None) -> None:
+    def __init__(
+        self, columns: Columns, how: How, at: AtFault, names: Optional[list[str]] = None
+    ) -> None:
         ask_type("columns", columns, Mapping, "a dict")
         self.read = {name: it if isinstance(it, Column) else Column(it)
                      for name, it in columns.items() if it is not None}
@@ -92,6 +92,11 @@ class Reader:
         self.how = (separator, *how[1:6], sizes, how.is_records)
         self.has_quotes = bool(how.has_quotes)
         self.record = min(max(sum(sizes), 1), sys.maxsize) if how.is_records else 0
+        self.at_fault = at
+        # How many bad rows are told at once, or -1 where the first ends the reading.
+        self.told = -1 if not at.skips else _TOLD if at.tell else 0
+        # Whether each row is a line, and each line a row.
+        self.is_by_lines = not (self.has_quotes or how.skips_empty_rows or self.record)
         # A row has so many bytes at least, unless it is the last one: a line feed and its cells.
         self.least = self.record or (sum(sizes) + 1 if sizes else max(len(self.cells), 1))
         self.numpy = numpy_or_none()
@@ -112,14 +117,53 @@ class Reader:
         return zeros(self.numpy, "B", (rows + 7) // 8)
 
     def parse(
-        self, text: Text, place: int, arrays: dict[str, Any], at: int, rows: int, part: Part
-    ) -> tuple[int, int]:
+        self,
+        text: Text,
+        place: int,
+        arrays: dict[str, Any],
+        at: int,
+        rows: int,
+        is_last: bool = True,
+        told: int = -1,
+    ) -> tuple[int, int, int, tuple[tuple[Any, ...], ...], bool]:
         """Reads so many rows at most of a text, from a place on, into arrays from a row on.
 
-        It answers how many there were, and how many bytes they had.
+        It answers how many right rows there were, of how many bytes with the bad ones, how many of
+        these were skipped, the faults that are told, and whether no further row stands there.
+
+        The first bad row ends the reading, and is told. Or they are skipped: none is told for 0,
+        and else so many at most, and then the next call goes on behind them.
         """
         read = {name: (*pair_of(arrays[name]), it.type, it.format)
                 for name, it in self.read.items()}
         columns = tuple(map(read.get, self.cells))
-        return _parse_table(text, place, part.is_last, self.how, columns, at, rows, part.row,
-                            part.start)
+        if told <= 0:
+            found = _parse_table(text, place, sys.maxsize, is_last, self.how, columns, at, rows,
+                                 told)
+            return *found, found[0] < rows
+        size, window = _text_size(text), _WINDOW
+        while True:
+            to = min(place + window, size)
+            count, length, bad, faults = _parse_table(
+                text, place, to, is_last and to == size, self.how, columns, at, rows, told)
+            if length or to == size:
+                return count, length, bad, faults, to == size and count < rows and bad < told
+            window *= 2
+
+    def fault(self, told: tuple[Any, ...], text: Text, part: Part, row: int) -> Fault:
+        """A fault of a part of a text, where so many rows were read before."""
+        fault = Fault(*told)
+        lines = row + fault.row if self.is_by_lines else part.lines_before(text, fault.place)
+        return fault.behind(row, part.start, part.line + lines)
+
+    def error(self, fault: Fault, row: int = 0, start: int = 0, line: int = 0) -> ParseError:
+        """The exception of a fault, behind so many rows, bytes and lines more."""
+        if row or start or line:
+            fault = fault.behind(row, start, line + row if self.is_by_lines else line)
+        return error_of(fault, self.cells, bool(self.record), self.at_fault.source)
+
+    def lines_in(self, text: bytes | memoryview) -> int:
+        """How many line feeds a text has, and none where each row is a line."""
+        if self.is_by_lines or not text:
+            return 0
+        return _row_count(text, 0) - (text[-1:] != b"\n")

@@ -3,11 +3,12 @@
 from __future__ import annotations
 
 import sys
-from typing import TYPE_CHECKING, Any
+from typing import TYPE_CHECKING, Any, Optional
 
 from ._arrays import cut, grown
-from ._core import ParseError, _move_bits, _text_size
-from ._reader import Part, Reader, pair_of
+from ._core import _move_bits, _text_size
+from ._faults import Fault, Part
+from ._reader import Reader, pair_of
 from ._table import Sparse, Table
 
 if TYPE_CHECKING:
@@ -23,19 +24,37 @@ _FOLD_OF_ARRAY = 32
 
 
 class Rows:
-    """Rows that were read, so many at most."""
+    """Rows that were read, so many at most, behind so many others.
 
-    def __init__(self, reader: Reader, most: int = sys.maxsize) -> None:
-        self.reader, self.most = reader, most
-        self.count = self.room = self.size = 0
+    Bad rows are told as they come; or the first of them are kept, where it isn't known yet how many
+    rows stand before them all.
+    """
+
+    def __init__(
+        self,
+        reader: Reader,
+        most: int = sys.maxsize,
+        row: int = 0,
+        kept: Optional[list[Fault]] = None,
+    ) -> None:
+        self.reader, self.most, self.row, self.kept = reader, most, row, kept
+        self.count = self.bad = self.room = self.size = 0
+        self.fault: Optional[Fault] = None
         self.arrays = Table()
 
     @classmethod
-    def of(cls, reader: Reader, arrays: Table, most: int) -> Rows:
+    def of(
+        cls, reader: Reader, arrays: Table, most: int, kept: Optional[list[Fault]] = None
+    ) -> Rows:
         """No rows yet, with arrays that have room for so many."""
-        rows = cls(reader, most)
+        rows = cls(reader, most, kept=kept)
         rows.arrays, rows.room = arrays, most
         return rows
+
+    @property
+    def end(self) -> int:
+        """How many rows there were with those before them, right and bad."""
+        return self.row + self.count + self.bad
 
     def is_full(self) -> bool:
         """Whether no further row is read."""
@@ -49,26 +68,40 @@ class Rows:
         size = _text_size(text)
         while True:
             self._make_room(size - place, behind)
-            asked = self.room - self.count
-            count, length = self._parse(text, place, asked, part)
+            length, is_end = self._parse(text, place, part)
             place += length
-            if count < asked or self.is_full():
+            if is_end or self.is_full():
                 return place
-            part = Part(part.is_last, part.row + count, part.start + length)
 
-    def _parse(self, text: Text, place: int, rows: int, part: Part) -> tuple[int, int]:
-        """Reads so many rows at most."""
-        try:
-            count, length = self.reader.parse(text, place, self.arrays, self.count, rows, part)
-        except ParseError as error:
-            self.count += error.row - part.row
-            raise
-        self.count, self.size = self.count + count, self.size + length
+    def _parse(self, text: Text, place: int, part: Part) -> tuple[int, bool]:
+        """Reads what there is room for: of how many bytes it is, and whether it is all."""
+        told = self.reader.told - len(self.kept) if self.kept else self.reader.told
+        count, length, bad, faults, is_end = self.reader.parse(
+            text, place, self.arrays, self.count, self.room - self.count, part.is_last, told)
+        if faults:
+            self._tell([self.reader.fault(it, text, part, self.end) for it in faults])
+        self.count, self.bad, self.size = self.count + count, self.bad + bad, self.size + length
         if self.size:
             self.reader.rate = self.count / self.size
-        return count, length
+        return length, is_end
 
-    def _told(self, size: int) -> int:
+    def _tell(self, faults: list[Fault]) -> None:
+        """Tells faults, or keeps them."""
+        tell = self.reader.at_fault.tell
+        if not tell:
+            self.fault = faults[0]
+        elif self.kept is None:
+            for fault in faults:
+                tell(self.reader.error(fault))
+        else:
+            self.kept += faults
+
+    def raise_fault(self, row: int = 0) -> None:
+        """Raises the fault that has ended the reading, if one has, behind so many rows more."""
+        if self.fault:
+            raise self.reader.error(self.fault, row)
+
+    def _guess(self, size: int) -> int:
         """How many rows so many bytes have, as those before them tell, and some more."""
         most = self.count * (_FOLD if self.reader.numpy else _FOLD_OF_ARRAY)
         return min(int(size * self.reader.rate * 1.125), most) + _FEW
@@ -76,9 +109,9 @@ class Rows:
     def _make_room(self, size: int, behind: int) -> None:
         """Makes room for some rows of so many bytes, or for all, as those before them tell."""
         most = min(size // self.reader.least + 1, self.most - self.count)
-        wanted = min(most, self._told(size) if self.reader.rate else _FIRST)
+        wanted = min(most, self._guess(size) if self.reader.rate else _FIRST)
         if wanted > self.room - self.count or self.room == self.count < self.most:
-            self.grow(max(wanted, self._told(size + behind) if behind else 0, self.count // 2))
+            self.grow(max(wanted, self._guess(size + behind) if behind else 0, self.count // 2))
 
     def grow(self, rows: int) -> None:
         """Makes room for so many rows more."""
@@ -100,24 +133,31 @@ class Rows:
     def append(self, other: Rows, behind: int) -> None:
         """Puts the rows of another behind these. Behind them stand about so many bytes more."""
         if self.room - self.count < other.count or not self.room:
-            self.grow(max(other.count, self._told(behind), self.count // 2))
+            self.grow(max(other.count, self._guess(behind), self.count // 2))
         for name, values in other.arrays.items():
             (numbers, bits), (to, to_bits) = pair_of(values), pair_of(self.arrays[name])
             with memoryview(numbers) as rows, memoryview(to) as places:
                 places[self.count:self.count + other.count] = rows[:other.count]
             if bits is not None:
                 _move_bits(to_bits, self.count, bits, other.count)
-        self.count += other.count
+        self.count, self.bad = self.count + other.count, self.bad + other.bad
 
     def table(self) -> Table:
         """The rows as a table, which alone has them."""
         if not self.room:
             self.grow(0)
-        return Table({name: _front(values, self.count) for name, values in self.arrays.items()})
+        return self._counted({name: _front(it, self.count) for name, it in self.arrays.items()})
 
     def fronts(self) -> Table:
         """The rows as a table over the arrays of a caller."""
-        return Table({name: _view(values, self.count) for name, values in self.arrays.items()})
+        return self._counted({name: _view(it, self.count) for name, it in self.arrays.items()})
+
+    def _counted(self, columns: dict[str, Any]) -> Table:
+        """Columns as a table, with how many bad rows were skipped."""
+        table = Table(columns)
+        if self.bad:
+            table.bad_rows = self.bad
+        return table
 
 
 def _view(values: Any, count: int) -> Any:

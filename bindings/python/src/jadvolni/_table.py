@@ -63,6 +63,9 @@ class Table(dict[str, Any]):
     None of its calls copies a number.
     """
 
+    # How many bad rows were skipped.
+    bad_rows = 0
+
     def to_numpy(self) -> dict[str, Any]:
         """Each column as an array of NumPy, and as a masked one where numbers may be missing."""
         import numpy

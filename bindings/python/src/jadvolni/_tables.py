@@ -12,9 +12,10 @@ from typing import (TYPE_CHECKING, Any, BinaryIO, Callable, ContextManager, Iter
 
 from ._blocks import File, _block, _blocks, _one_or_more, keep_memory
 from ._core import _row_count, _text_size
+from ._faults import AtFault, Errors, OnError, Part, at_fault
 from ._files import Texts, read_texts, whole_rows
 from ._header import ask_header, read_header
-from ._reader import How, Part, Reader, ask_type
+from ._reader import How, Reader, ask_type
 from ._rows import Rows
 from ._table import Table
 from ._threads import bytes_of, parse_in_threads, raise_changed, rows_in_threads
@@ -47,22 +48,47 @@ def _room_of(reader: Reader, out: Mapping[str, Any], rows: int) -> Table:
 
 
 def _parse(
-    reader: Reader, text: Text, out: Optional[Mapping[str, Any]], threads: int, before: int
+    reader: Reader, text: Text, out: Optional[Mapping[str, Any]], threads: int, before: Part
 ) -> Table:
-    """The rows of a text, which stands behind so many bytes."""
+    """The rows of a text, before which stands a header or nothing."""
     keep_memory(2 * _text_size(text))
     if threads == 1 and out is None:
         found = Rows(reader)
-        found.read(text, Part(start=before))
+        found.read(text, before)
+        found.raise_fault()
         return found.table()
     rows = _row_count(text, reader.record)
     arrays = reader.room(rows) if out is None else _room_of(reader, out, rows)
     found = Rows.of(reader, arrays, rows)
     if threads > 1:
-        found.count = parse_in_threads(reader, text, arrays, threads, before)
-    elif found.read(text, Part(start=before)) != _text_size(text):
-        raise_changed()
+        found.count, found.bad = parse_in_threads(reader, text, arrays, threads, before)
+    else:
+        stop = found.read(text, before)
+        found.raise_fault()
+        if stop != _text_size(text):
+            raise_changed()
     return found.table() if out is None else found.fronts()
+
+
+def _parse_text(
+    text: Text,
+    columns: Columns,
+    how: How,
+    at: AtFault,
+    out: Optional[Mapping[str, Any]],
+    threads: int,
+    header: bool,
+) -> Table:
+    """The rows of a text, with a header or none."""
+    threads = _one_or_more("threads", threads)
+    ask_header(how, header)
+    if not header:
+        return _parse(Reader(columns, how, at), text, out, threads, Part())
+    _text_size(text)  # (so that what is no text is told as ever)
+    with memoryview(bytes_of(text) if isinstance(text, str) else text) as whole:
+        names, _, before = read_header(_parts(whole), how, sys.maxsize)
+        with whole[before.start:] as rest:
+            return _parse(Reader(columns, how, at, names), rest, out, threads, before)
 
 
 def parse_table(
@@ -80,6 +106,8 @@ def parse_table(
     threads: int = 1,
     *,
     header: bool = False,
+    on_error: OnError = "raise",
+    errors: Errors = None,
 ) -> Table:
     """The rows of a text, each column as an array.
 
@@ -97,22 +125,22 @@ def parse_table(
     without a byte is none. missing: what stands for a missing number where a Column has may_miss,
     which then is a Sparse: by default an empty cell. widths: how many bytes each column's cells
     have, in the place of separators. is_records: rows have as many bytes as the widths together,
-    at least one, and no line feed behind them. threads: how many read the text, in parts.
+    at least one, and no line feed behind them. threads: how many read the text, in parts; at a
+    fault `out` then may hold anything.
 
-    ParseError has the first wrong cell in reading order, by `row`, `column` and `place`, from 0: a
-    header is no row, and its bytes count.
+    ParseError has the first wrong cell in reading order: its `row`, `line`, `column` and `name`,
+    its first bytes as `text`, the `place` of the wrong byte, and its row from `row_start` to
+    `row_stop`. They count from 0: a header is no row, and its lines and bytes count. The message
+    counts lines and columns from 1, as an editor does.
+
+    on_error: "skip" skips rows at fault, and stores the others one behind another, in `out` too,
+    where the place behind the last one may change; the table's `bad_rows` counts them. errors: a
+    list that the ParseError of each bad row is appended to, or a function that is called with it,
+    in the order of the rows. What it raises ends the reading.
     """
     how = How(separator, has_returns, has_quotes, allows_blanks, skips_empty_rows, missing, widths,
               is_records)
-    threads = _one_or_more("threads", threads)
-    ask_header(how, header)
-    if not header:
-        return _parse(Reader(columns, how), text, out, threads, 0)
-    _text_size(text)  # (so that what is no text is told as ever)
-    with memoryview(bytes_of(text) if isinstance(text, str) else text) as whole:
-        names, _, before = read_header(_parts(whole), how, sys.maxsize)
-        with whole[before:] as rest:
-            return _parse(Reader(columns, how, names), rest, out, threads, before)
+    return _parse_text(text, columns, how, at_fault(on_error, errors), out, threads, header)
 
 
 def _parts(text: memoryview) -> Iterator[bytes]:
@@ -142,6 +170,8 @@ def read_table(
     progress: Optional[Callable[[int], object]] = None,
     mmap: bool = False,
     header: bool = False,
+    on_error: OnError = "raise",
+    errors: Errors = None,
 ) -> Table:
     """The rows of a file, by its path or opened by "rb", with the arguments of parse_table.
 
@@ -155,12 +185,14 @@ def read_table(
     if not isinstance(file, (str, os.PathLike)):
         if mmap:
             raise TypeError("file has to be a path where mmap is true")
-        return _read_opened(file, columns, how, out, threads, size, progress, header)
+        at = at_fault(on_error, errors, getattr(file, "name", None))
+        return _read_opened(file, columns, how, at, out, threads, size, progress, header)
+    at = at_fault(on_error, errors, os.fsdecode(file))
     with open(file, "rb") as opened:
         if not mmap:
-            return _read_opened(opened, columns, how, out, threads, size, progress, header)
+            return _read_opened(opened, columns, how, at, out, threads, size, progress, header)
         with _mapped(opened) as text:
-            return parse_table(text, columns, *how, out=out, threads=threads, header=header)
+            return _parse_text(text, columns, how, at, out, threads, header)
 
 
 def _mapped(file: BinaryIO) -> ContextManager[Any]:
@@ -183,6 +215,7 @@ def _opened(
     file: File,
     columns: Columns,
     how: How,
+    at: AtFault,
     size: int,
     most: int,
     progress: Optional[Callable[[int], object]],
@@ -193,17 +226,18 @@ def _opened(
     ask_header(how, header)
     blocks = _blocks(file, size, progress)
     if not header:
-        reader = Reader(columns, how)
-        return reader, whole_rows(blocks, reader, most, 0), 0
-    names, blocks, start = read_header(blocks, how, most)
-    reader = Reader(columns, how, names)
-    return reader, whole_rows(blocks, reader, most, start), start
+        reader = Reader(columns, how, at)
+        return reader, whole_rows(blocks, reader, most, Part()), 0
+    names, blocks, before = read_header(blocks, how, most)
+    reader = Reader(columns, how, at, names)
+    return reader, whole_rows(blocks, reader, most, before), before.start
 
 
 def _read_opened(
     file: File,
     columns: Columns,
     how: How,
+    at: AtFault,
     out: Optional[Mapping[str, Any]],
     threads: int,
     size: int,
@@ -213,10 +247,10 @@ def _read_opened(
     """The rows of a file that is open."""
     size, threads = _one_or_more("size", size), _one_or_more("threads", threads)
     if out is not None:  # (all its rows are counted before one is written)
-        return parse_table(b"".join(_blocks(file, size, progress)), columns, *how, out=out,
-                           threads=threads, header=header)
+        text = b"".join(_blocks(file, size, progress))
+        return _parse_text(text, columns, how, at, out, threads, header)
     left, told = _size_left(file), progress if threads == 1 else None
-    reader, blocks, start = _opened(file, columns, how, size, sys.maxsize, told, header)
+    reader, blocks, start = _opened(file, columns, how, at, size, sys.maxsize, told, header)
     rows, left = Rows(reader), left - start
     if threads > 1:
         if progress and start:
@@ -229,10 +263,10 @@ def _read_opened(
                 progress(block)
         return rows.table()
     for texts in blocks:
-        start, left = texts.start, left - texts.block
-        for text in texts.texts:
-            rows.read(text, Part(texts.block == 0, rows.count, start), behind=max(left, 0))
-            start += len(text)
+        left -= texts.block
+        for text, part in texts.parts:
+            rows.read(text, part, behind=max(left, 0))
+            rows.raise_fault()
     return rows.table()
 
 
@@ -253,30 +287,37 @@ def iter_table(
     *,
     threads: int = 1,
     header: bool = False,
+    on_error: OnError = "raise",
+    errors: Errors = None,
 ) -> Iterator[Table]:
     """The rows of a file of any size, by tables of at most so many rows and about `size` bytes.
 
-    A row that a block cuts is read with the next one. ParseError counts `row` and `place` from
-    where reading began, a `header` with its bytes; the rows before it come first. A row of more
-    than `size` bytes is a ValueError, so that no more than two blocks are held, or two for each of
-    the `threads`. `progress` is called as by iter_column.
+    A row that a block cuts is read with the next one. ParseError counts from where reading began,
+    a `header` with its lines and bytes; the rows before it come first. A row of more than `size`
+    bytes is a ValueError, so that no more than two blocks are held, or two for each of the
+    `threads`. `progress` is called as by iter_column. Where bad rows are skipped, a table may have
+    no row, and counts those of its part of the file.
     """
     rows, size = _one_or_more("rows", rows), _one_or_more("size", size)
     threads, row = _one_or_more("threads", threads), 0
     how = How(separator, has_returns, has_quotes, allows_blanks, skips_empty_rows, missing, widths,
               is_records)
     told = progress if threads == 1 else None
-    reader, blocks, start = _opened(file, columns, how, size, size, told, header)
+    at = at_fault(on_error, errors, getattr(file, "name", None))
+    reader, blocks, start = _opened(file, columns, how, at, size, size, told, header)
     if threads > 1:
         if progress and start:
             progress(start)
         for all_found, block in rows_in_threads(reader, blocks, rows, threads):
             for found in all_found:
-                yield found.table()
+                if found.end > found.row:
+                    yield found.table()
             if progress and block:
                 progress(block)
         return
     for texts in blocks:
         for found in read_texts(reader, texts, rows, row):
-            row += found.count
-            yield found.table()
+            row = found.end
+            if found.end > found.row:
+                yield found.table()
+            found.raise_fault()

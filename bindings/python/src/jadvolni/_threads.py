@@ -6,16 +6,20 @@ from collections import deque
 from concurrent.futures import Future, ThreadPoolExecutor
 from contextlib import ExitStack, suppress
 from itertools import accumulate
-from typing import TYPE_CHECKING, Any, Iterable, Iterator, NoReturn, Optional
+from typing import TYPE_CHECKING, Any, Iterable, Iterator, NoReturn
 
-from ._core import ParseError, _move_bits, _row_count, _row_stops
+from ._core import _move_bits, _row_count, _row_stops
+from ._faults import Fault, Part
 from ._files import Texts, read_texts
-from ._reader import Part, Reader, pair_of
+from ._reader import Reader, pair_of
 from ._rows import Rows
 from ._table import Sparse, Table
 
 if TYPE_CHECKING:
     from ._core import Text
+
+# So many rows are read at once where they are read again, for their faults.
+_FEW = 1024
 
 
 def raise_changed() -> NoReturn:
@@ -58,54 +62,69 @@ def _join(values: Any, parts: list[Any], lines: list[int], counts: list[int]) ->
 
 
 def parse_in_threads(
-    reader: Reader, text: Text, arrays: Table, threads: int, before: int
-) -> int:
-    """Reads the rows of a text in parts, side by side, and answers how many there are.
-
-    So many bytes stand before the text.
-    """
-    reader.parse(text, 0, arrays, 0, 0, Part())  # (so that wrong arguments are told as ever)
+    reader: Reader, text: Text, arrays: Table, threads: int, before: Part
+) -> tuple[int, int]:
+    """Reads the rows of a text in parts, side by side, and answers how many there are, and how many
+    bad ones were skipped."""
+    reader.parse(text, 0, arrays, 0, 0)  # (so that wrong arguments are told as ever)
     # The pool comes last, so that its threads have ended when the memory that they use is let go.
     with ExitStack() as held, ThreadPoolExecutor(threads) as pool:
         whole = held.enter_context(memoryview(bytes_of(text) if isinstance(text, str) else text))
         parts = min(threads, len(whole))
         stops = _row_stops(whole, parts, reader.has_quotes, reader.record)
-        starts = [0, *stops]
-        texts = [held.enter_context(whole[start:stop]) for start, stop in zip(starts, stops)]
+        texts = [held.enter_context(whole[start:stop]) for start, stop in zip([0, *stops], stops)]
         lines = list(pool.map(lambda it: _row_count(it, reader.record), texts))
         rooms = [_room_behind(reader, arrays, row, rows, held)
                  for row, rows in zip(accumulate(lines, initial=0), lines)]
 
-        def count_of(part: int) -> Optional[int]:
-            """How many rows a part has, or None where a cell is wrong."""
-            try:
-                rows, stop = reader.parse(texts[part], 0, rooms[part], 0, lines[part], Part())
-            except ParseError:
-                return None
-            return rows if stop == len(texts[part]) else raise_changed()
+        def rows_of(part: int) -> Rows:
+            """The rows of a part, or those up to a fault."""
+            rows = Rows.of(reader, Table(rooms[part]), lines[part], [])
+            if rows.read(texts[part], Part()) != len(texts[part]) and not rows.fault:
+                raise_changed()
+            return rows
 
-        counts: list[Any] = list(pool.map(count_of, range(len(texts))))
-        if None in counts:  # (it is read again: only now it is known how many rows stand before it)
-            wrong = counts.index(None)
-            place = Part(row=sum(counts[:wrong]), start=before + starts[wrong])
-            reader.parse(texts[wrong], 0, reader.room(lines[wrong]), 0, lines[wrong], place)
-            raise_changed()
+        found = list(pool.map(rows_of, range(len(texts))))
+        _tell_parts(reader, texts, found, before)
+    counts = [rows.count for rows in found]
     for name, values in arrays.items():
         _join(values, [room[name] for room in rooms], lines, counts)
-    return sum(counts)
+    return sum(counts), sum(rows.bad for rows in found)
+
+
+def _tell_parts(
+    reader: Reader, texts: list[memoryview], found: list[Rows], before: Part
+) -> None:
+    """Tells the faults of parts of a text, or raises the first one, whose rows now are counted."""
+    row, start, line = 0, before.start, before.line
+    for text, rows in zip(texts, found):
+        if rows.fault:
+            raise reader.error(rows.fault, row, start, line)
+        faults = [fault.behind(0, start, line) for fault in rows.kept or ()]
+        tell_kept(reader, Texts([(text, Part(True, start, line))], 0), rows.bad, faults, row)
+        row, start, line = row + rows.end, start + len(text), line + reader.lines_in(text)
+
+
+def tell_kept(reader: Reader, texts: Texts, bad: int, kept: list[Fault], row: int) -> None:
+    """Tells the bad rows of texts, which stand behind so many rows. Where not all were kept, the
+    texts are read again."""
+    tell = reader.at_fault.tell
+    if not tell:
+        return
+    if len(kept) == bad:
+        for fault in kept:
+            tell(reader.error(fault, row))
+        return
+    for rows in read_texts(reader, texts, _FEW, row):
+        pass
 
 
 # ---- a file, whose blocks are read one by one
 
-def _read_part(reader: Reader, texts: Texts, most: int) -> tuple[list[Rows], bool]:
-    """The rows of texts, so many at most at once, and whether a fault ends them."""
-    found = []
-    try:
-        for rows in read_texts(reader, texts, most, 0):
-            found.append(rows)
-    except ParseError:
-        return found, True
-    return found, False
+def _read_part(reader: Reader, texts: Texts, most: int) -> tuple[list[Rows], list[Fault]]:
+    """The rows of texts, so many at most at once, and the first bad ones that are skipped."""
+    kept: list[Fault] = []
+    return list(read_texts(reader, texts, most, 0, kept)), kept
 
 
 def rows_in_threads(
@@ -116,7 +135,7 @@ def rows_in_threads(
     While they are read, the next block is waited for.
     """
     row, left, failed = 0, iter(blocks), None
-    waiting: deque[tuple[Texts, Future[tuple[list[Rows], bool]]]] = deque()
+    waiting: deque[tuple[Texts, Future[tuple[list[Rows], list[Fault]]]]] = deque()
     with ThreadPoolExecutor(threads) as pool:
         while True:
             try:
@@ -130,12 +149,11 @@ def rows_in_threads(
             if not waiting:
                 break
             texts, answer = waiting.popleft()
-            found, is_wrong = answer.result()
+            found, kept = answer.result()
+            tell_kept(reader, texts, sum(rows.bad for rows in found), kept, row)
             yield found, texts.block
-            if is_wrong:  # (it is read again: only now it is known how many rows stand before it)
-                for _ in read_texts(reader, texts, most, row):
-                    pass
-                raise_changed()
-            row += sum(rows.count for rows in found)
+            if found:
+                found[-1].raise_fault(row)
+                row += found[-1].end
     if failed:
         raise failed

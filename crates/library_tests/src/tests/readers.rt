@@ -6,10 +6,10 @@ ghost use Rattle.uses.specs.Json.{settled_at};
 use crate::tests::answers;
 use lexical_parse_integer::Error;
 use uses::config::{ValueError, value};
-use uses::fixed_point::{FixedPointError, fixed_point};
 use uses::fixed_width::{RowError, values};
 use uses::json::{NumberError, Part, integer_part};
 use uses::ledger::{Entry, LedgerError, LineError, total};
+use uses::price::Price;
 use uses::source::{c, python};
 use uses::toml::{integer, setting};
 
@@ -36,9 +36,10 @@ fn values_and_literals(rt: HostRuntime) {
 
 #[test]
 fn fields_of_texts(rt: HostRuntime) {
-    let prices = [fixed_point(b"-0.05 EUR", 2), fixed_point(b"12.505", 2)];
-    let many = Err(FixedPointError::TooManyDigits(5));
-    answers(&rt, prices, [Ok((-5, 5)), many]);
+    let (cents, rest) = (-5, b" EUR".as_slice());
+    let prices = [Price::of(b"-0,05 EUR"), Price::of(b"12,505")];
+    let many = Err(Error::InvalidDigit(5));
+    answers(&rt, prices, [Ok(Price { cents, rest }), many]);
     let rows = [values(b"007-32", &[3, 3]), values(b"00732", &[3, 3])];
     let (expected, found) = (6, 5);
     let short = Err(RowError::Length { expected, found });

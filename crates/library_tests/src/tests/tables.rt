@@ -105,7 +105,11 @@ fn rows_may_end_either_way(rt: HostRuntime) {
     let rows = read_under(b"1,2\r\n-30,x\n7,\r\n", &dialect);
     answers(&rt, rows, (table(3, 15), [1, -30, 7]));
     let within = fault_in(1, 0, CellFault::NotNumber(Error::InvalidDigit(5)));
-    answers(&rt, read_under(b"1,2\n3\r,4\n", &dialect), (within, [1, 9, 9]));
+    answers(
+        &rt,
+        read_under(b"1,2\n3\r,4\n", &dialect),
+        (within, [1, 9, 9]),
+    );
     let last = Dialect {
         layout: Layout::Separated {
             separator: b',',

@@ -1,6 +1,6 @@
 use Rattle.std.proofs.Common.{◌∙◌, arith, inl, inr, sym}
 use Rattle.std.proofs.lemmas.Bool.Decides.{nat_tests}
-use Rattle.lexical_tables.proofs.FoldSteps.{fold_room, put_ends, put_goes, put_starts}
+use Rattle.lexical_tables.proofs.FoldSteps.{fold_ends, fold_room, put_ends, put_goes, put_starts}
 use Rattle.lexical_tables.proofs.fold.put_folded.Goals.{else-not-is_second, then-not-is_second}
 use Rattle.lexical_tables.proofs.fold.put_folded.Goals as goal
 
@@ -27,7 +27,12 @@ loop-place-preserved c =
       | else-not-is_second w ↦ inr (w.if-not-is_second.false, w.size-is, w.to-is)
     ])
 
-pub returns : goal.returns
-returns c =
+pub returns-clause-size : goal.returns-clause-size
+returns-clause-size c =
+    fold_ends c.args.text.now c.loop-place.place c.loop-place.size c.loop-place.is_odd c.loop-place.invariant.reading
+    (grind (arith, nat_tests))
+
+pub returns-clause-written : goal.returns-clause-written
+returns-clause-written c =
     put_ends c.args.text.now c.loop-place.place c.loop-place.size c.loop-place.is_odd c.args.to.now c.loop-place.to
     c.loop-place.invariant (grind (arith, nat_tests))

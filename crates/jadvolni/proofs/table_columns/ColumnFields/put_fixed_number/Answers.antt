@@ -18,7 +18,7 @@ pub put_fixed-requires : goal.put_fixed-requires
 put_fixed-requires c =
     let column = c.args.self.now in
     record {
-      valid = none_is (fixed_fault c.format-format.result) (ap fixed_fault c.format-format.ensures
+      valid = none_is (fixed_fault c.fixed_format-format.result) (ap fixed_fault c.fixed_format-format.ensures
           ∙ valid_fixed column (c.args.row + 1) _ (sym c.number_type.ensures ∙ c.in-Some.is) c.requires.places c.requires.usable);
       room = room_for column c.args.row c.requires.usable;
       fits = c.requires.fits;
@@ -28,9 +28,9 @@ pub returns : goal.returns
 returns c =
     let text : FieldView = record { start = c.args.start; text = c.args.text.now } in
     let column = c.args.self.now in
-    let format = c.format-format.result in
+    let format = c.fixed_format-format.result in
     let same : (type : IntegerType) → view_of Number (fixed_answer format type text)
-    ≡ answer_by (reading_of column.description type) text = λ type. ap (λ it. view_of Number (fixed_answer it type text)) c.format-format.ensures
+    ≡ answer_by (reading_of column.description type) text = λ type. ap (λ it. view_of Number (fixed_answer it type text)) c.fixed_format-format.ensures
     ∙ fixed_point_answer column.description type text c.requires.places in
     record {
       fault =

@@ -2,7 +2,7 @@ use Rattle.std.proofs.Common.{IsNone, subst, sym}
 use Rattle.lexical_util.specs.Format.{Format}
 use Rattle.lexical_util.specs.Validity.{fault}
 use Rattle.lexical_fixed.proofs.Valid.{integer_valid}
-use Rattle.lexical_fixed.proofs.parse.read_front.Goals as goal
+use Rattle.lexical_fixed.proofs.parse.partial_if_left.Goals as goal
 
 pub integer_part-requires : goal.integer_part-requires
 integer_part-requires g c = record {

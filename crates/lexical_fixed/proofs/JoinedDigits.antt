@@ -1,0 +1,151 @@
+-- A text without the byte at one place, as a word and as a number: for the shortest way.
+use Rattle.std.proofs.Common.{◌≡◌, ℕ, zero, suc, ◌+◌, ◌-◌, ◌*◌, ◌/◌, ◌%◌, ◌^◌, ◌<◌, ◌≤◌, List, [], ◌∷◌, ◌++◌, length, length-append, get_or, take, drop, sym, ap, subst, ◌∙◌, arith}
+use Rattle.std.proofs.lemmas.List.{length-drop, length-take-le}
+use Rattle.lexical_digits.specs.Words.{AreDigits, word_bytes, word_value}
+use Rattle.lexical_digits.specs.WrittenNumbers.{bytes_number, with_more}
+use Rattle.lexical_digits.proofs.WordsOfDigits.{AllBytes, HoldsDigits, all_dropped, all_taken, bytes_small, holds_digits, padded, padded_value, raised_none}
+use Rattle.lexical_fixed.specs.Quick.{IsJoined, without}
+
+-- ---- the word
+
+-- what stands behind a byte comes one nearer
+pub word_taken : (place word : ℕ) → place < 8 → word < 18446744073709551616 →
+    word - (word / 2 ^ (8 * place) - word / 2 ^ (8 * place) / 256) * 2 ^ (8 * place) % 18446744073709551616
+    ≡ word % 256 ^ place + word / 256 ^ (place + 1) * 256 ^ place
+word_taken zero word few small = omega arith
+word_taken (suc zero) word few small = omega arith
+word_taken (suc (suc zero)) word few small = omega arith
+word_taken (suc (suc (suc zero))) word few small = omega arith
+word_taken (suc (suc (suc (suc zero)))) word few small = omega arith
+word_taken (suc (suc (suc (suc (suc zero))))) word few small = omega arith
+word_taken (suc (suc (suc (suc (suc (suc zero)))))) word few small = omega arith
+word_taken (suc (suc (suc (suc (suc (suc (suc zero))))))) word few small = omega arith
+word_taken (suc (suc (suc (suc (suc (suc (suc (suc n)))))))) word few small = absurd (omega arith)
+
+-- so the word of a text is that of the text without the byte
+pub without_number : (place : ℕ) (bytes : List ℕ) → AllBytes bytes → place < length bytes → place < 8 →
+    bytes_number bytes % 256 ^ place + bytes_number bytes / 256 ^ (place + 1) * 256 ^ place ≡ bytes_number (without place bytes)
+without_number zero [] all within few = absurd (omega arith)
+without_number zero (a ∷ rest) all within few = omega (arith, all.0)
+without_number (suc zero) [] all within few = absurd (omega arith)
+without_number (suc zero) (a ∷ []) all within few = absurd (omega arith)
+without_number (suc zero) (a ∷ b ∷ rest) all within few = omega (arith, all.0, all.1.0)
+without_number (suc (suc zero)) [] all within few = absurd (omega arith)
+without_number (suc (suc zero)) (a ∷ []) all within few = absurd (omega arith)
+without_number (suc (suc zero)) (a ∷ b ∷ []) all within few = absurd (omega arith)
+without_number (suc (suc zero)) (a ∷ b ∷ c ∷ rest) all within few = omega (arith, all.0, all.1.0, all.1.1.0)
+without_number (suc (suc (suc zero))) [] all within few = absurd (omega arith)
+without_number (suc (suc (suc zero))) (a ∷ []) all within few = absurd (omega arith)
+without_number (suc (suc (suc zero))) (a ∷ b ∷ []) all within few = absurd (omega arith)
+without_number (suc (suc (suc zero))) (a ∷ b ∷ c ∷ []) all within few = absurd (omega arith)
+without_number (suc (suc (suc zero))) (a ∷ b ∷ c ∷ d ∷ rest) all within few = omega (arith, all.0, all.1.0, all.1.1.0, all.1.1.1.0)
+without_number (suc (suc (suc (suc zero)))) [] all within few = absurd (omega arith)
+without_number (suc (suc (suc (suc zero)))) (a ∷ []) all within few = absurd (omega arith)
+without_number (suc (suc (suc (suc zero)))) (a ∷ b ∷ []) all within few = absurd (omega arith)
+without_number (suc (suc (suc (suc zero)))) (a ∷ b ∷ c ∷ []) all within few = absurd (omega arith)
+without_number (suc (suc (suc (suc zero)))) (a ∷ b ∷ c ∷ d ∷ []) all within few = absurd (omega arith)
+without_number (suc (suc (suc (suc zero)))) (a ∷ b ∷ c ∷ d ∷ e ∷ rest) all within few = omega (arith, all.0, all.1.0, all.1.1.0, all.1.1.1.0, all.1.1.1.1.0)
+without_number (suc (suc (suc (suc (suc zero))))) [] all within few = absurd (omega arith)
+without_number (suc (suc (suc (suc (suc zero))))) (a ∷ []) all within few = absurd (omega arith)
+without_number (suc (suc (suc (suc (suc zero))))) (a ∷ b ∷ []) all within few = absurd (omega arith)
+without_number (suc (suc (suc (suc (suc zero))))) (a ∷ b ∷ c ∷ []) all within few = absurd (omega arith)
+without_number (suc (suc (suc (suc (suc zero))))) (a ∷ b ∷ c ∷ d ∷ []) all within few = absurd (omega arith)
+without_number (suc (suc (suc (suc (suc zero))))) (a ∷ b ∷ c ∷ d ∷ e ∷ []) all within few = absurd (omega arith)
+without_number (suc (suc (suc (suc (suc zero))))) (a ∷ b ∷ c ∷ d ∷ e ∷ f ∷ rest) all within few = omega (arith, all.0, all.1.0, all.1.1.0, all.1.1.1.0, all.1.1.1.1.0, all.1.1.1.1.1.0)
+without_number (suc (suc (suc (suc (suc (suc zero)))))) [] all within few = absurd (omega arith)
+without_number (suc (suc (suc (suc (suc (suc zero)))))) (a ∷ []) all within few = absurd (omega arith)
+without_number (suc (suc (suc (suc (suc (suc zero)))))) (a ∷ b ∷ []) all within few = absurd (omega arith)
+without_number (suc (suc (suc (suc (suc (suc zero)))))) (a ∷ b ∷ c ∷ []) all within few = absurd (omega arith)
+without_number (suc (suc (suc (suc (suc (suc zero)))))) (a ∷ b ∷ c ∷ d ∷ []) all within few = absurd (omega arith)
+without_number (suc (suc (suc (suc (suc (suc zero)))))) (a ∷ b ∷ c ∷ d ∷ e ∷ []) all within few = absurd (omega arith)
+without_number (suc (suc (suc (suc (suc (suc zero)))))) (a ∷ b ∷ c ∷ d ∷ e ∷ f ∷ []) all within few = absurd (omega arith)
+without_number (suc (suc (suc (suc (suc (suc zero)))))) (a ∷ b ∷ c ∷ d ∷ e ∷ f ∷ g ∷ rest) all within few = omega (arith, all.0, all.1.0, all.1.1.0, all.1.1.1.0, all.1.1.1.1.0, all.1.1.1.1.1.0, all.1.1.1.1.1.1.0)
+without_number (suc (suc (suc (suc (suc (suc (suc zero))))))) [] all within few = absurd (omega arith)
+without_number (suc (suc (suc (suc (suc (suc (suc zero))))))) (a ∷ []) all within few = absurd (omega arith)
+without_number (suc (suc (suc (suc (suc (suc (suc zero))))))) (a ∷ b ∷ []) all within few = absurd (omega arith)
+without_number (suc (suc (suc (suc (suc (suc (suc zero))))))) (a ∷ b ∷ c ∷ []) all within few = absurd (omega arith)
+without_number (suc (suc (suc (suc (suc (suc (suc zero))))))) (a ∷ b ∷ c ∷ d ∷ []) all within few = absurd (omega arith)
+without_number (suc (suc (suc (suc (suc (suc (suc zero))))))) (a ∷ b ∷ c ∷ d ∷ e ∷ []) all within few = absurd (omega arith)
+without_number (suc (suc (suc (suc (suc (suc (suc zero))))))) (a ∷ b ∷ c ∷ d ∷ e ∷ f ∷ []) all within few = absurd (omega arith)
+without_number (suc (suc (suc (suc (suc (suc (suc zero))))))) (a ∷ b ∷ c ∷ d ∷ e ∷ f ∷ g ∷ []) all within few = absurd (omega arith)
+without_number (suc (suc (suc (suc (suc (suc (suc zero))))))) (a ∷ b ∷ c ∷ d ∷ e ∷ f ∷ g ∷ h ∷ rest) all within few = omega (arith, all.0, all.1.0, all.1.1.0, all.1.1.1.0, all.1.1.1.1.0, all.1.1.1.1.1.0, all.1.1.1.1.1.1.0, all.1.1.1.1.1.1.1.0)
+without_number (suc (suc (suc (suc (suc (suc (suc (suc n)))))))) bytes all within few = absurd (omega arith)
+
+-- ---- behind digits 0
+
+pub shifted_up : (count word : ℕ) → 1 ≤ count → count < 8 → word < 256 ^ count →
+    word * 2 ^ (64 - 8 * count) % 18446744073709551616 + 3472328296227680304 / 2 ^ (8 * count) ≡ word * 256 ^ (8 - count) + 3472328296227680304 / 256 ^ count
+shifted_up zero word some few small = absurd (omega arith)
+shifted_up (suc zero) word some few small = omega arith
+shifted_up (suc (suc zero)) word some few small = omega arith
+shifted_up (suc (suc (suc zero))) word some few small = omega arith
+shifted_up (suc (suc (suc (suc zero)))) word some few small = omega arith
+shifted_up (suc (suc (suc (suc (suc zero))))) word some few small = omega arith
+shifted_up (suc (suc (suc (suc (suc (suc zero)))))) word some few small = omega arith
+shifted_up (suc (suc (suc (suc (suc (suc (suc zero))))))) word some few small = omega arith
+shifted_up (suc (suc (suc (suc (suc (suc (suc (suc n)))))))) word some few small = absurd (omega arith)
+
+pub shifted_fits : (count word : ℕ) → 1 ≤ count → count < 8 → word < 256 ^ count → word * 256 ^ (8 - count) + 3472328296227680304 / 256 ^ count < 18446744073709551616
+shifted_fits zero word some few small = absurd (omega arith)
+shifted_fits (suc zero) word some few small = omega arith
+shifted_fits (suc (suc zero)) word some few small = omega arith
+shifted_fits (suc (suc (suc zero))) word some few small = omega arith
+shifted_fits (suc (suc (suc (suc zero)))) word some few small = omega arith
+shifted_fits (suc (suc (suc (suc (suc zero))))) word some few small = omega arith
+shifted_fits (suc (suc (suc (suc (suc (suc zero)))))) word some few small = omega arith
+shifted_fits (suc (suc (suc (suc (suc (suc (suc zero))))))) word some few small = omega arith
+shifted_fits (suc (suc (suc (suc (suc (suc (suc (suc n)))))))) word some few small = absurd (omega arith)
+
+padded_number : (count : ℕ) (bytes : List ℕ) → 1 ≤ count → count < 8 → bytes_number bytes * 256 ^ (8 - count) + 3472328296227680304 / 256 ^ count ≡ bytes_number (padded (8 - count) bytes)
+padded_number zero bytes some few = absurd (omega arith)
+padded_number (suc zero) bytes some few = omega arith
+padded_number (suc (suc zero)) bytes some few = omega arith
+padded_number (suc (suc (suc zero))) bytes some few = omega arith
+padded_number (suc (suc (suc (suc zero)))) bytes some few = omega arith
+padded_number (suc (suc (suc (suc (suc zero))))) bytes some few = omega arith
+padded_number (suc (suc (suc (suc (suc (suc zero)))))) bytes some few = omega arith
+padded_number (suc (suc (suc (suc (suc (suc (suc zero))))))) bytes some few = omega arith
+padded_number (suc (suc (suc (suc (suc (suc (suc (suc n)))))))) bytes some few = absurd (omega arith)
+
+-- ---- the number
+
+pub without_length : (place : ℕ) (bytes : List ℕ) → place < length bytes → length (without place bytes) ≡ length bytes - 1
+without_length place bytes within =
+    let front = length-take-le place bytes (omega arith) in
+    let rest = length-drop (place + 1) bytes in
+    length-append (take place bytes) (drop (place + 1) bytes) ∙ omega (arith, front, rest)
+
+all_joined : (xs ys : List ℕ) → AllBytes xs → AllBytes ys → AllBytes (xs ++ ys)
+all_joined [] ys a b = b
+all_joined (x ∷ xs) ys a b = (a.0, all_joined xs ys a.1 b)
+
+pub all_without : (place : ℕ) (bytes : List ℕ) → AllBytes bytes → AllBytes (without place bytes)
+all_without place bytes all = all_joined (take place bytes) (drop (place + 1) bytes) (all_taken place bytes all) (all_dropped (place + 1) bytes all)
+
+-- it has no more bytes than are left
+pub without_small : (place : ℕ) (bytes : List ℕ) → AllBytes bytes → place < length bytes → bytes_number (without place bytes) < 256 ^ (length bytes - 1)
+without_small place bytes all within =
+    subst (λ n. bytes_number (without place bytes) < 256 ^ n) (without_length place bytes within) (bytes_small (without place bytes) (all_without place bytes all))
+
+digits_behind : (count : ℕ) (bytes : List ℕ) → AreDigits 10 (padded count bytes) → AreDigits 10 bytes
+digits_behind zero bytes digits = digits
+digits_behind (suc count) bytes digits = digits_behind count bytes digits.1
+
+-- a word behind digits 0 that is digits is those of the bytes
+pub joined_read : (bytes : List ℕ) (word number : ℕ) → 1 ≤ length bytes → length bytes < 8 → AllBytes bytes →
+    word ≡ bytes_number bytes * 256 ^ (8 - length bytes) + 3472328296227680304 / 256 ^ length bytes →
+    AreDigits 10 (word_bytes 8 word) → number ≡ word_value 10 (word_bytes 8 word) → IsJoined bytes number
+joined_read bytes word number some few all is digits worth =
+    let n : ℕ = length bytes in
+    let whole : word ≡ bytes_number (padded (8 - n) (with_more 0 bytes)) =
+    is ∙ padded_number n bytes some few ∙ ap (λ (bs : List ℕ). bytes_number (padded (8 - n) bs)) (sym (raised_none bytes)) in
+    let holds : HoldsDigits (8 - n) 0 bytes word = holds_digits (8 - n) 0 bytes word (omega arith) all (first_small bytes all) whole in
+    let same : word_bytes 8 word ≡ padded (8 - n) bytes = holds.bytes ∙ ap (λ (bs : List ℕ). padded (8 - n) bs) (raised_none bytes) in
+    record {
+      digits = digits_behind (8 - n) bytes (subst (λ (bs : List ℕ). AreDigits 10 bs) same digits);
+      worth = worth ∙ ap (word_value 10) same ∙ padded_value (8 - n) bytes;
+    }
+  where
+    first_small : (bs : List ℕ) → AllBytes bs → get_or bs 0 0 + 0 < 256
+    first_small [] all = omega arith
+    first_small (b ∷ bs) all = let low = all.0 in omega arith

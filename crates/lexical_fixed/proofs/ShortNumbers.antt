@@ -1,0 +1,186 @@
+-- Digits around a point that has all places behind it are the number in units: for the shortest way.
+use Rattle.std.proofs.Common.{◌≡◌, ℕ, zero, suc, ◌+◌, ◌-◌, ◌*◌, ◌^◌, ◌≤◌, ◌<◌, Bool, true, false, cond, not, ◌&&◌, List, [], ◌∷◌, ◌++◌, length, get_or, take, drop, Option, Some, None, IsNone, is_some, option_and_then, Ok, refl, sym, ap, subst, ◌∙◌, arith, inl}
+use Rattle.std.proofs.Math.IntN.{ℤ, pos}
+use Rattle.std.proofs.Math.Nat.{one-le-pow, mul-le-mul_left}
+use Rattle.std.specs.Prelude.{◌==◌, IfSome, slice_get, slice_range}
+use Rattle.std.proofs.lemmas.Bool.{eqb-true, lt-ltb}
+use Rattle.std.proofs.lemmas.Bool.Decides.{nat_tests}
+use Rattle.std.proofs.lemmas.List.{length-drop, take_all}
+use mir.Val.{bool_byte}
+use Rattle.lexical_util.specs.declared.error.Error.{Error}
+use Rattle.lexical_util.specs.Digit.{digit}
+use Rattle.lexical_util.specs.Number.{IntegerType, IsNumber, is_number, mul_add}
+use Rattle.lexical_util.specs.Validity.{fault}
+use Rattle.lexical_digits.specs.Value.{with_sign}
+use Rattle.lexical_digits.specs.Words.{AreDigits, word_value}
+use Rattle.lexical_digits.specs.WrittenNumbers.{WritesFirst}
+use Rattle.lexical_digits.proofs.DigitValues.{with_sign-step}
+use Rattle.lexical_digits.proofs.LongNumbers.{sign_held, stands}
+use Rattle.lexical_digits.proofs.ShiftedWords.{writes_text}
+use Rattle.lexical_digits.proofs.WordsInFront.{rest_is}
+use Rattle.lexical_digits.proofs.WordsOfDigits.{value_joined}
+use Rattle.lexical_parse_integer.specs.Grammar.{partial}
+use Rattle.lexical_parse_integer.specs.Laws.{TellsDigits}
+use Rattle.lexical_parse_integer.specs.Plain.{BeginsWith, IsBehind, IsPlain}
+use Rattle.lexical_parse_integer.specs.Runs.{are_same, digit_at}
+use Rattle.lexical_parse_integer.specs.Stops.{stops_after_digit}
+use Rattle.lexical_parse_integer.proofs.plain.DigitsInFront.{begins_read}
+use Rattle.lexical_fixed.specs.Fixed.{Fixed}
+use Rattle.lexical_fixed.specs.Grammar.{complete_fixed, is_negative}
+use Rattle.lexical_fixed.specs.Quick.{IsBare, IsFraction, IsJoined, IsLastPoint, without}
+use Rattle.lexical_fixed.specs.Validity.{fixed_fault, fixed_fault_by, has_affix, is_unfit_point}
+use Rattle.lexical_fixed.specs.declared.error.FixedFormatError.{FixedFormatError}
+use Rattle.lexical_fixed.specs.declared.error.FixedFormatError.TheVariants.{Affix, Point, Radix}
+use Rattle.lexical_fixed.proofs.Digits.{is_number-below}
+use Rattle.lexical_fixed.proofs.LastFractions.{last_ends}
+use Rattle.lexical_fixed.proofs.QuickFronts.{few_digits, front_joined, partial_by_part}
+use Rattle.lexical_fixed.proofs.QuickParts.{decimal_of, first_false, part_by_front, second_false}
+use Rattle.lexical_fixed.proofs.Valid.{is_none}
+use Rattle.lexical_fixed.proofs.WholeByFront.{complete_by_front}
+
+-- ---- the point
+
+-- the point of a valid description is no digit
+pub point_no_digit : (f : Fixed) → IsNone (fixed_fault f) → is_some (digit 10 f.point) ≡ false
+point_no_digit f valid = by_fault (fault f.integer) valid
+  where
+    by_tests : (a b c : Bool) (rest : Option FixedFormatError) → is_unfit_point f.integer f.point ≡ c
+        → IsNone (cond (not a) (Some Radix) (cond b (Some Affix) (cond c (Some Point) rest))) → is_some (digit 10 f.point) ≡ false
+    by_tests true false false rest fit valid =
+        let tail = second_false (f.point == 43) _ fit in
+        first_false (is_some (digit 10 f.point)) _ (second_false (f.point == 45) _ tail)
+    by_tests true false true rest fit valid = absurd (cc)
+    by_tests true true c rest fit valid = absurd (cc)
+    by_tests false b c rest fit valid = absurd (cc)
+
+    by_fault : (found : Option Error) → IsNone (fixed_fault_by f found) → is_some (digit 10 f.point) ≡ false
+    by_fault None valid = by_tests (f.integer.mantissa_radix == 10) (has_affix f.integer) (is_unfit_point f.integer f.point) _ refl valid
+    by_fault (Some error) valid = absurd (cc)
+
+-- the byte that stands at a place
+byte_there : (byte : ℕ) (bytes : List ℕ) (place : ℕ) → are_same (Some byte) (slice_get bytes place) ≡ true → get_or bytes place 0 ≡ byte
+unfolding are_same
+byte_there byte [] place some = cc
+byte_there byte (b ∷ bs) zero some = eqb-true b byte some
+byte_there byte (b ∷ bs) (suc n) some = byte_there byte bs n some
+
+pub stands_there : (byte : ℕ) (bytes : List ℕ) (place : ℕ) → place < length bytes → get_or bytes place 0 ≡ byte → are_same (Some byte) (slice_get bytes place) ≡ true
+unfolding are_same
+stands_there byte [] place within same = absurd (omega arith)
+stands_there byte (b ∷ bs) zero within same = grind (arith, nat_tests)
+stands_there byte (b ∷ bs) (suc n) within same = stands_there byte bs n (omega arith) same
+
+-- ---- behind a minus or none
+
+behind_get : (b : Bool) (t : IntegerType) (text digits : List ℕ) (place : ℕ) → IsBehind b t text digits → slice_get text (bool_byte b + place) ≡ slice_get digits place
+behind_get false t text digits place same = let e : 0 + place ≡ place = omega arith in ap (slice_get text) e ∙ ap (λ (bs : List ℕ). slice_get bs place) same
+behind_get true t text digits place same = let e : 1 + place ≡ suc place = omega arith in ap (slice_get text) e ∙ ap (λ (bs : List ℕ). slice_get bs (suc place)) same.0
+
+behind_drop : (b : Bool) (t : IntegerType) (text digits : List ℕ) (place : ℕ) → IsBehind b t text digits → drop (bool_byte b + place) text ≡ drop place digits
+behind_drop false t text digits place same = let e : 0 + place ≡ place = omega arith in ap (λ k. drop k text) e ∙ ap (λ (bs : List ℕ). drop place bs) same
+behind_drop true t text digits place same = let e : 1 + place ≡ suc place = omega arith in ap (λ k. drop k text) e ∙ ap (λ (bs : List ℕ). drop (suc place) bs) same.0
+
+behind_length : (b : Bool) (t : IntegerType) (text digits : List ℕ) → IsBehind b t text digits → length text ≡ bool_byte b + length digits
+behind_length false t text digits same = ap length same ∙ omega arith
+behind_length true t text digits same = ap length same.0 ∙ omega arith
+
+-- the minus of a text
+pub minus_is : (t : IntegerType) (text : List ℕ) → 0 < length text → (t.is_signed && (get_or text 0 0 == 45)) ≡ is_negative t text
+unfolding is_negative are_same
+minus_is t [] some = absurd (omega arith)
+minus_is t (c ∷ cs) some = refl
+
+-- ---- the digits
+
+digits_parted : (xs ys : List ℕ) → AreDigits 10 (xs ++ ys) → AreDigits 10 xs × AreDigits 10 ys
+digits_parted [] ys digits = (tt, digits)
+digits_parted (x ∷ xs) ys digits = let rest = digits_parted xs ys digits.1 in ((digits.0, rest.0), rest.1)
+
+digit_there : (bytes : List ℕ) (place : ℕ) → suc place ≤ length bytes → AreDigits 10 (take (suc place) bytes) → is_some (digit_at 10 bytes place) ≡ true
+unfolding digit_at
+digit_there [] place within digits = absurd (omega arith)
+digit_there (b ∷ bs) zero within digits = digits.0
+digit_there (b ∷ bs) (suc n) within digits = digit_there bs n (omega arith) digits.1
+
+-- a digit stands before a place
+ends_with_digit : (b : Bool) (t : IntegerType) (text digits : List ℕ) (place : ℕ) → IsBehind b t text digits → 1 ≤ place → place ≤ length digits → AreDigits 10 (take place digits) → stops_after_digit 10 text (bool_byte b + place) ≡ true
+unfolding digit_at
+ends_with_digit b t text digits zero behind some within all = absurd (omega arith)
+ends_with_digit b t text digits (suc n) behind some within all =
+    let back : bool_byte b + suc n - 1 ≡ bool_byte b + n = omega arith in
+    let here : is_some (digit_at 10 digits n) ≡ true = digit_there digits n within all in
+    let same : is_some (digit_at 10 text (bool_byte b + suc n - 1)) ≡ true = ap (λ k. is_some (digit_at 10 text k)) back ∙ ap (λ (o : Option ℕ). is_some (option_and_then (λ byte. digit 10 byte) o)) (behind_get b t text digits n behind) ∙ here in
+    rw (lt-ltb 0 (bool_byte b + suc n) (omega arith), same) refl
+
+-- digits that are all of a text are those that it begins with
+all_first : (bytes : List ℕ) (number : ℕ) → length bytes ≤ 8 → AreDigits 10 bytes → number ≡ word_value 10 bytes → WritesFirst bytes number (length bytes)
+all_first bytes number few digits worth =
+    let all : take (length bytes) bytes ≡ bytes = take_all (length bytes) bytes (omega arith) in
+    record {
+      few = few;
+      within = omega arith;
+      writes = writes_text (take (length bytes) bytes) number (subst (λ (bs : List ℕ). AreDigits 10 bs) (sym all) digits) (worth ∙ ap (word_value 10) (sym all));
+      stops = λ less more. absurd (omega arith);
+    }
+
+-- ---- the number
+
+plain_of : (f : Fixed) → IsNone (fixed_fault f) → IsBare f.integer → IsPlain f.integer
+plain_of f valid bare =
+    let d = decimal_of f valid in
+    record {
+      no_separator = bare.no_separator;
+      no_prefix = d.no_prefix;
+      no_suffix = d.no_suffix;
+      no_literals = d.no_literals;
+      no_octal_zeros = d.no_octal_zeros;
+      no_sign = bare.no_sign;
+    }
+
+pub short_read : (f : Fixed) (t : IntegerType) (b : Bool) (text digits : List ℕ) (place number : ℕ) (value : ℤ) → IsNone (fixed_fault f) → IsBare f.integer → (IsNone f.integer.base_suffix → TellsDigits f.integer t text)
+    → IsBehind b t text digits → b ≡ is_negative t text → IsLastPoint f digits place → IsJoined (without place digits) number → number < 100000000 → value ≡ with_sign b number → IsNumber t value
+    → complete_fixed f t text ≡ Ok value
+short_read f t b text digits place number value valid bare law behind minus at joined small is fits =
+    let start : ℕ = bool_byte b in
+    let size = at.size in
+    let before : List ℕ = take place digits in
+    let rest : List ℕ = drop (place + 1) digits in
+    let parts = digits_parted before rest joined.digits in
+    let whole : ℕ = word_value 10 before in
+    let last : ℕ = word_value 10 rest in
+    let long : length rest ≡ f.places = length-drop (place + 1) digits ∙ omega arith in
+    let sum : number ≡ whole * 10 ^ f.places + last = joined.worth ∙ value_joined 10 before rest ∙ ap (λ n. whole * 10 ^ n + last) long in
+    let one : 1 ≤ 10 ^ f.places = one-le-pow f.places 10 (omega arith) in
+    let up : whole * 1 ≤ whole * 10 ^ f.places = mul-le-mul_left whole one in
+    let below : whole ≤ number = omega arith in
+    let number_fits : is_number t (with_sign b number) ≡ true = ap (is_number t) (sym is) ∙ fits in
+    let whole_fits : is_number t (with_sign b whole) ≡ true = is_number-below t b whole number below number_fits in
+    let begins : BeginsWith f.integer t b digits (with_sign b whole) place = record {
+      some = at.before;
+      within = omega arith;
+      stops = λ less. ap (λ byte. is_some (digit 10 byte)) (byte_there f.point digits place at.point) ∙ point_no_digit f valid;
+      rule = rw bare.no_rule refl;
+      stands = stands t b before whole (with_sign b whole) (writes_text before whole parts.0 refl) refl whole_fits;
+    } in
+    let front : partial f.integer t text ≡ Ok (with_sign b whole, start + place) = begins_read f.integer t b text digits (with_sign b whole) place start (plain_of f valid bare) (decimal_of f valid).radix behind refl begins in
+    let part = part_by_front f t text (with_sign b whole) (start + place) valid law front (ends_with_digit b t text digits place behind at.before (omega arith) parts.0) in
+    let point : are_same (Some f.point) (slice_get text (start + place)) ≡ true = ap (are_same (Some f.point)) (behind_get b t text digits place behind) ∙ at.point in
+    let next : start + place + 1 ≡ start + (place + 1) = omega arith in
+    let behind_point : slice_range text (start + place + 1) (length text) ≡ rest = rest_is text (start + place + 1) ∙ ap (λ k. drop k text) next ∙ behind_drop b t text digits (place + 1) behind in
+    let first : WritesFirst rest last f.places = subst (λ n. WritesFirst rest last n) long (all_first rest last (omega (arith, at.few, long)) parts.1 refl) in
+    let there : WritesFirst (slice_range text (start + place + 1) (length text)) last f.places = subst (λ (bs : List ℕ). WritesFirst bs last f.places) (sym behind_point) first in
+    let fraction : IsFraction f text (start + place) last f.places = few_digits f text (start + place) last f.places point there at.behind (omega (arith, at.few, at.before)) (omega arith) (omega arith) in
+    let step : value ≡ mul_add b (with_sign b whole) (pos (10 ^ f.places)) (pos last) = is ∙ ap (with_sign b) sum ∙ sym (with_sign-step b whole (10 ^ f.places) last) in
+    let joined_front = front_joined f t text (with_sign b whole) value value (start + place) last f.places 0 b minus (sign_held b (with_sign b whole) whole refl) fraction step fits (omega arith) (inl (omega arith)) (inl (refl, refl)) in
+    let long_text = behind_length b t text digits behind in
+    let ends = last_ends f text (start + place) last f.places fraction at.behind (omega (arith, long_text, size)) (sym long ∙ ap length (sym behind_point)) in
+    complete_by_front f t text value (partial_by_part f t text (with_sign b whole) (start + place) part ∙ joined_front ∙ ap (λ k. Ok (value, k)) ends)
+
+-- so is a value that was found for the number
+pub short_found : {V : Type 0} (number_of : V → ℤ) (f : Fixed) (t : IntegerType) (b : Bool) (text digits : List ℕ) (place number : ℕ) (found : Option V) → IsNone (fixed_fault f) → IsBare f.integer
+    → (IsNone f.integer.digit_separator → IsNone f.integer.base_suffix → TellsDigits f.integer t text)
+    → IsBehind b t text digits → b ≡ is_negative t text → IsLastPoint f digits place → IsJoined (without place digits) number → number < 100000000
+    → IfSome found (λ v. number_of v ≡ with_sign b number) → IfSome found (λ v. IsNumber t (number_of v)) → IfSome found (λ v. complete_fixed f t text ≡ Ok (number_of v))
+short_found number_of f t b text digits place number None valid bare law behind minus at joined small is fits = tt
+short_found number_of f t b text digits place number (Some v) valid bare law behind minus at joined small is fits =
+    short_read f t b text digits place number (number_of v) valid bare (law (is_none f.integer.digit_separator bare.no_separator)) behind minus at joined small is fits
