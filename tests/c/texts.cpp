@@ -89,6 +89,12 @@ static void amounts()
 {
     amounts_of<std::uint8_t>(), amounts_of<std::uint16_t>(), amounts_of<std::uint32_t>(), amounts_of<std::uint64_t>();
     amounts_of<std::int8_t>(), amounts_of<std::int16_t>(), amounts_of<std::int32_t>(), amounts_of<std::int64_t>();
+    // Begun with {}, their radix is 10.
+    jadvolni::fixed cents{};
+    cents.places = 2;
+    short amounts[2] = {};
+    jadvolni::table_column of_cents[] = {column_into(amounts, cents)};
+    CHECK(jadvolni::parse_table("-1.05\n07.00", commas(), 2, of_cents) && amounts[0] == -105 && amounts[1] == 700);
     // Without places they are integers, and no point is looked at.
     unsigned char numbers[2] = {};
     auto whole = amount();
