@@ -305,6 +305,31 @@ mod with_memory {
         }
     }
 
+    /// Fails at once.
+    struct Failing;
+
+    impl Read for Failing {
+        fn read(&mut self, _: &mut [u8]) -> io::Result<usize> {
+            Err(io::ErrorKind::BrokenPipe.into())
+        }
+    }
+
+    #[test]
+    fn the_block_has_what_is_left_where_a_read_fails() {
+        let device = (&b"a,1\nbc,2\nde"[..]).chain(Failing);
+        let mut rows = TableReader::new(device, Dialect::separated_by(b','));
+        let mut texts = [CellText::NONE; 1];
+        let mut read = || {
+            let mut columns = [TableColumn::of_texts(&mut texts), TableColumn::UNREAD];
+            let count = rows.read(&mut columns).ok();
+            (count, texts[0].of(rows.block()).to_vec(), rows.block().to_vec())
+        };
+        assert_eq!(read(), (Some(1), b"a".to_vec(), b"a,1\nbc,2\nde".to_vec()));
+        assert_eq!(read(), (Some(1), b"bc".to_vec(), b"bc,2\nde".to_vec()));
+        assert_eq!(read().2, b"de");
+        assert_eq!((read().0, rows.block()), (None, &b"de"[..]));
+    }
+
     #[test]
     fn texts_before_a_fault_stand_in_its_block() {
         let mut rows =
