@@ -17,9 +17,9 @@
 //     std::vector<int> values(1000);
 //     auto read = jadvolni::parse_column(text, '\n', values); // a number on each line
 //
-// Tables are read by parse_table, by parse_table_skipping, which skips bad rows, and by table_blocks; table_fault tells
-// of a fault its line, its row and its cell, in words too. Rows, columns, lines and places count from 0, and in words
-// lines and columns from 1, as an editor counts.
+// Tables are read by parse_table, by parse_table_skipping, which skips bad rows, and by table_blocks, into columns of
+// integers, of fixed-point numbers and of texts; table_fault tells of a fault its line, its row and its cell, in words
+// too. Rows, columns, lines and places count from 0, and in words lines and columns from 1, as an editor counts.
 //
 // T may be any integer type of C++ but bool and the types of wide characters, and, with gcc and
 // clang, a type of 128 bits. No call throws or allocates, and the header compiles without exceptions

@@ -60,6 +60,10 @@ public:
     // How many bad rows of the block were skipped, also those that had no room.
     std::size_t bad_rows() const noexcept { return bad_rows_; }
 
+    // The bytes of the block, in which the places of its texts count: text_of(block.bytes(), texts[row]). They are
+    // there while the block is the last one that was read.
+    std::string_view bytes() const noexcept { return text_.bytes; }
+
     // What is wrong: a fault with its column and its name, or, at status::ok, that a row has no room
     // among the bytes or that reading has failed.
     using table_result::column, table_result::status, table_result::name;

@@ -1,4 +1,4 @@
-// jadvolni_columns.hpp - the columns of a table by the names of its header, for C++17.
+// jadvolni_columns.hpp - the columns of a table by the names of its header, and texts of cells as strings, for C++17.
 //
 //     std::vector<std::uint32_t> ids(1000);
 //     std::vector<std::int64_t> cents(1000);
@@ -8,7 +8,7 @@
 //     auto read = columns.read(text, 1000);
 //     if (!read) std::cerr << columns.fault(read, text).what() << '\n'; // line 3, "cents": "7x": invalid digit at ..
 //
-// Unlike jadvolni.hpp it allocates memory for names, and throws where there is none.
+// Unlike jadvolni.hpp it allocates memory for names and texts, and throws where there is none.
 #pragma once
 
 #include "jadvolni.hpp"
@@ -18,6 +18,38 @@
 #include <vector>
 
 namespace jadvolni {
+
+namespace detail {
+
+// A text with one quote for each two.
+inline std::string folded(std::string_view held)
+{
+    std::string told(held.size(), 0);
+    told.resize(jadvolni_fold_quotes(held.data(), held.size(), told.data(), told.size()));
+    return told;
+}
+
+// Has the places of the texts in a column's first rows count from so many bytes before what was read. Missing ones
+// stay, and so do all where it has an array of numbers, which is taken first.
+inline void move_texts(const table_column &column, std::size_t rows, std::size_t bytes) noexcept
+{
+    const auto &[texts, capacity] = column.text;
+    if ((column.i64.capacity | column.u64.capacity | column.i32.capacity | column.u32.capacity | column.i16.capacity
+         | column.u16.capacity | column.i8.capacity | column.u8.capacity) != 0)
+        return;
+    const auto &[bits, bits_size] = column.present;
+    for (std::size_t row = 0; row < std::min(rows, capacity); ++row)
+        if (bits_size == 0 || (bits[row / 8] >> (row % 8) & 1) != 0) texts[row].start += bytes;
+}
+
+} // namespace detail
+
+// What a text of a cell says: its bytes with one quote for each two, as of fold_into.
+[[nodiscard]] inline std::string folded(std::string_view text, const cell_text &cell)
+{
+    auto held = text_of(text, cell);
+    return cell.has_doubled_quotes ? detail::folded(held) : std::string(held);
+}
 
 // A column that is read, and the name that the header has for it.
 struct named_column {
@@ -62,11 +94,13 @@ public:
     table_column *data() noexcept { return columns_.data(); }
     std::size_t size() const noexcept { return columns_.size(); }
 
-    // The rows behind the header of a text, `capacity` at most, as of parse_table. Places count from the text's start.
+    // The rows behind the header of a text, `capacity` at most, as of parse_table. Places count from the text's start,
+    // those of texts too.
     [[nodiscard]] table_result read(std::string_view text, std::size_t capacity) noexcept
     {
         auto behind = text.substr(std::min(place_, text.size()));
         auto rows = detail::read_table(behind, true, how_, capacity, data(), size());
+        move_texts(rows);
         return rows.moved(place_);
     }
 
@@ -77,6 +111,7 @@ public:
         const auto start = std::min(place_, text.size());
         auto rows = detail::read_table_skipping(text.substr(start), true, how_, capacity, data(), size(),
                                                 std::data(bad), std::size(bad));
+        move_texts(rows);
         const auto known = std::min<std::size_t>(rows.bad_rows(), std::size(bad));
         for (std::size_t index = 0; index < known; ++index)
             std::data(bad)[index] = behind(std::data(bad)[index], 0, place_);
@@ -104,6 +139,17 @@ private:
         : how_(how)
     {
         choose(text, wanted, count);
+    }
+
+    // Has the places of the texts that were read count from the text's start. Of a row at fault those are there that
+    // stand before its wrong cell.
+    void move_texts(const table_result &read) const noexcept
+    {
+        if (!read && !detail::has_place(read.status())) return;
+        for (std::size_t index = 0; index < columns_.size(); ++index) {
+            const bool has_more = !read && index < read.column();
+            detail::move_texts(columns_[index], read.rows() + has_more, place_);
+        }
     }
 
     // Finds the columns that are wanted.
@@ -163,14 +209,8 @@ private:
     // What a cell holds, without its quotes and blanks.
     std::string name_of(std::string_view cell) const
     {
-        std::string name(cell);
-        if (how_.has_quotes && cell.size() >= 2 && cell.front() == '"') {
-            name.clear();
-            for (std::size_t place = 1; place + 1 < cell.size(); ++place) {
-                name += cell[place];
-                place += cell[place] == '"'; // the one that doubles it
-            }
-        }
+        const bool is_quoted = how_.has_quotes && cell.size() >= 2 && cell.front() == '"';
+        auto name = is_quoted ? detail::folded(cell.substr(1, cell.size() - 2)) : std::string(cell);
         if (!how_.allows_blanks) return name;
         auto start = name.find_first_not_of(" \t");
         return start == name.npos ? std::string() : name.substr(start, name.find_last_not_of(" \t") + 1 - start);

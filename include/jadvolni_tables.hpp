@@ -10,12 +10,31 @@ namespace jadvolni {
 // How a table is written. Begin with table{}, and set what differs. Its widths have to outlive it.
 using table = jadvolni_table;
 
-// A column of a table: how its cells are read, and where their numbers go. table_column{} isn't read.
+// A column of a table: how its cells are read, and where their numbers or texts go. table_column{} isn't read.
 using table_column = jadvolni_table_column;
+
+// Where a text stands that a cell holds: text_of has its bytes.
+using cell_text = jadvolni_cell_text;
+
+namespace detail {
+
+// Whether a column may be read into what is handed over, which has to outlive it.
+template <class Values>
+inline constexpr bool outlives = std::is_lvalue_reference_v<Values> || is_view<Values>;
+
+// A column whose texts' places go to an array.
+inline table_column column_of_texts(cell_text *texts, std::size_t capacity) noexcept
+{
+    table_column column{};
+    column.text = {texts, capacity};
+    return column;
+}
+
+} // namespace detail
 
 // A column whose numbers go to an array. One without room, as of a std::vector that was only reserved, is
 // status::invalid_table where rows are asked for.
-template <class T>
+template <class T, class = std::enable_if_t<!std::is_same_v<T, cell_text>>>
 [[nodiscard]] table_column column_into(T *numbers, std::size_t capacity,
                                        const format &under = standard) noexcept
 {
@@ -29,17 +48,76 @@ template <class T>
     return column;
 }
 
+// A column whose fixed-point numbers, as amounts, go to an array in units of the last place: "12.50" with two places is
+// 1250. Without places they are integers in the format of the integer part, whose radix then isn't 0.
+template <class T, class = std::enable_if_t<!std::is_same_v<T, cell_text>>>
+[[nodiscard]] table_column column_into(T *numbers, std::size_t capacity, const fixed &under) noexcept
+{
+    auto column = column_into(numbers, capacity, under.integer);
+    column.point = under.point;
+    column.places = under.places;
+    column.takes_fewer = under.takes_fewer;
+    std::copy(std::begin(under.reserved), std::end(under.reserved), std::begin(column.reserved));
+    return column;
+}
+
+// A column of texts, of which it goes to an array where each stands. A cell may hold any bytes, and doubled quotes
+// within its own.
+[[nodiscard]] inline table_column column_into(cell_text *texts, std::size_t capacity) noexcept
+{
+    return detail::column_of_texts(texts, capacity);
+}
+
 // A column into what has its numbers in a row: a std::vector, a std::array, a std::span, an array.
 template <class Values>
 [[nodiscard]] auto column_into(Values &&values, const format &under = standard) noexcept
     -> decltype(column_into(std::data(values), std::size(values), under))
 {
-    static_assert(std::is_lvalue_reference_v<Values> || detail::is_view<Values>,
-                  "the numbers have to outlive the column");
+    static_assert(detail::outlives<Values>, "the numbers have to outlive the column");
     return column_into(std::data(values), std::size(values), under);
 }
 
-// Whether a column has a number in a row, by the bits that its `present` is set to: `present = {data, size}`.
+// The same of fixed-point numbers.
+template <class Values>
+[[nodiscard]] auto column_into(Values &&values, const fixed &under) noexcept
+    -> decltype(column_into(std::data(values), std::size(values), under))
+{
+    static_assert(detail::outlives<Values>, "the numbers have to outlive the column");
+    return column_into(std::data(values), std::size(values), under);
+}
+
+// The same of texts.
+template <class Texts>
+[[nodiscard]] auto column_into(Texts &&texts) noexcept
+    -> decltype(detail::column_of_texts(std::data(texts), std::size(texts)))
+{
+    static_assert(detail::outlives<Texts>, "the texts have to outlive the column");
+    return column_into(std::data(texts), std::size(texts));
+}
+
+// The bytes of a text, with quotes doubled as they stand there. It takes what the table was read from: where other
+// bytes have no such place, there are none.
+[[nodiscard]] inline std::string_view text_of(std::string_view text, const cell_text &cell) noexcept
+{
+    const bool is_there = cell.start <= text.size() && cell.size <= text.size() - cell.start;
+    return is_there ? text.substr(cell.start, cell.size) : std::string_view();
+}
+
+// The same with one quote for each two. Where none is doubled it is what text_of gives, and else it is written to the
+// front of `room`, for which as many bytes as the text has are enough. Where they are too few, there is no answer, and
+// nothing is written. jadvolni_columns.hpp has `folded`, which makes a std::string.
+template <class Room>
+[[nodiscard]] std::optional<std::string_view> fold_into(std::string_view text, const cell_text &cell,
+                                                        Room &room) noexcept
+{
+    auto held = text_of(text, cell);
+    if (!cell.has_doubled_quotes) return held;
+    auto size = jadvolni_fold_quotes(held.data(), held.size(), std::data(room), std::size(room));
+    if (size > std::size(room)) return std::nullopt;
+    return std::string_view(std::data(room), size);
+}
+
+// Whether a column has a number or a text in a row, by the bits that its `present` is set to: `present = {data, size}`.
 template <class Bits>
 [[nodiscard]] bool is_present(const Bits &bits, std::size_t row) noexcept
 {
@@ -101,20 +179,22 @@ struct byte_span {
     }
 };
 
-// The bytes that a column writes of so many rows: its numbers, and its bits. One that isn't read writes none.
+// The bytes that a column writes of so many rows: its numbers or texts, and its bits. One that isn't read writes none.
 struct written {
-    byte_span numbers, bits;
+    byte_span items, bits;
 
     written(const table_column &column, std::size_t rows) noexcept
     {
-        auto take = [&](const auto &array) noexcept {
-            if (array.capacity == 0 || !numbers.is_empty()) return;
-            numbers.start = reinterpret_cast<std::uintptr_t>(array.numbers);
-            numbers.stop = numbers.start + std::min(rows, array.capacity) * sizeof *array.numbers;
+        auto take_items = [&](const auto *first, std::size_t capacity) noexcept {
+            if (capacity == 0 || !items.is_empty()) return;
+            items.start = reinterpret_cast<std::uintptr_t>(first);
+            items.stop = items.start + std::min(rows, capacity) * sizeof *first;
         };
+        auto take = [&](const auto &array) noexcept { take_items(array.numbers, array.capacity); };
         take(column.i64), take(column.u64), take(column.i32), take(column.u32);
         take(column.i16), take(column.u16), take(column.i8), take(column.u8);
-        if (numbers.is_empty()) return;
+        take_items(column.text.texts, column.text.capacity);
+        if (items.is_empty()) return;
         bits.start = reinterpret_cast<std::uintptr_t>(column.present.bytes);
         bits.stop = bits.start + std::min(column.present.size, rows / 8 + (rows % 8 != 0));
     }
@@ -122,7 +202,7 @@ struct written {
     // Whether a byte is written for two columns.
     bool meets(const written &other) const noexcept
     {
-        return numbers.meets(other.numbers) || numbers.meets(other.bits) || bits.meets(other.numbers)
+        return items.meets(other.items) || items.meets(other.bits) || bits.meets(other.items)
             || bits.meets(other.bits);
     }
 };
@@ -132,8 +212,8 @@ inline std::size_t overlapping(const table_column *columns, std::size_t count, s
 {
     for (std::size_t index = 0; index < count; ++index) {
         written here(columns[index], rows);
-        if (here.numbers.is_empty()) continue;
-        if (here.numbers.meets(here.bits)) return index;
+        if (here.items.is_empty()) continue;
+        if (here.items.meets(here.bits)) return index;
         for (std::size_t before = 0; before < index; ++before)
             if (here.meets(written(columns[before], rows))) return index;
     }

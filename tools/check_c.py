@@ -187,7 +187,7 @@ def calls(place: Place) -> Iterator[Step]:
         yield f"C99 under sanitizers, {name}", partial(step, ["-std=c99", *SANITIZED])
     bare, racing = ["-fno-exceptions", "-fno-rtti", *OPTIMISED], ["-fsanitize=thread", "-g", "-O1"]
     cxx_callers = ("wrapper.cpp", "skipping.cpp", "tables.cpp", "blocks.cpp", "by_header.cpp",
-                   "faults.cpp", "threads.cpp")
+                   "faults.cpp", "texts.cpp", "threads.cpp")
     for compiler, name in product(CXX_COMPILERS, cxx_callers):
         step, name = partial(call, place, f"tests/c/{name}", compiler), f"{name}, {compiler}"
         yield f"C++17, {name}", partial(step, [CXX17, *OPTIMISED])

@@ -31,6 +31,8 @@ void misuse()
     std::array<long long, 2> many{};
     (void)jadvolni::column_into(values), (void)jadvolni::column_into(many), (void)jadvolni::column_into(kept);
     (void)jadvolni::column_into(view{values.data(), values.size()});
+    jadvolni::cell_text texts[2]{};
+    (void)jadvolni::column_into(texts), (void)jadvolni::column_into(values, jadvolni::fixed{});
     (void)jadvolni::parse_column("1,2", ',', values), (void)jadvolni::parse<char>("1");
 #elif MISUSE == 1 /* both: have to outlive the column */
     (void)jadvolni::column_into(std::vector<int>(2));
@@ -50,5 +52,11 @@ void misuse()
     (void)jadvolni::column_into(std::move(kept));
 #elif MISUSE == 9 /* both: have to outlive the column */
     (void)jadvolni::column_into(owner());
+#elif MISUSE == 10 /* both: texts have to outlive the column */
+    (void)jadvolni::column_into(std::vector<jadvolni::cell_text>(2));
+#elif MISUSE == 11 /* both: numbers have to outlive the column */
+    (void)jadvolni::column_into(std::vector<int>(2), jadvolni::fixed{});
+#elif MISUSE == 12 /* both: may be written */
+    (void)jadvolni::column_into(constant, jadvolni::fixed{});
 #endif
 }

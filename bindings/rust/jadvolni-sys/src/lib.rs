@@ -216,6 +216,15 @@ const _: () = {
     assert!(
         size_of::<jadvolni_table_column>() == 208 && offset_of!(jadvolni_table_column, u8) == 160
     );
+    assert!(offset_of!(jadvolni_table_column, point) == 32);
+    assert!(
+        offset_of!(jadvolni_table_column, text) == 176
+            && offset_of!(jadvolni_table_column, present) == 192
+    );
+    assert!(
+        size_of::<jadvolni_cell_text>() == 24
+            && offset_of!(jadvolni_cell_text, has_doubled_quotes) == 16
+    );
     assert!(
         size_of::<jadvolni_table_result>() == 32 && offset_of!(jadvolni_table_result, column) == 8
     );

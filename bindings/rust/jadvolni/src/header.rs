@@ -2,6 +2,7 @@
 
 extern crate std;
 
+use crate::cell_text::folded;
 use crate::cells::{cells_of, content_of_row};
 use crate::row_ends::RowEnds;
 use crate::{
@@ -272,7 +273,8 @@ impl<'a> Columns<'a> {
         &self.header
     }
 
-    /// Reads the rows behind the header of a text, as [`parse_table`] does. Places count from the text's start.
+    /// Reads the rows behind the header of a text, as [`parse_table`] does. Places count from the text's start, those of
+    /// texts too.
     pub fn read(
         &mut self,
         text: impl AsRef<[u8]>,
@@ -280,13 +282,21 @@ impl<'a> Columns<'a> {
     ) -> Result<Table, TableError> {
         let (text, start) = (text.as_ref(), self.header.stop);
         match parse_table(text.get(start..).unwrap_or(&[]), dialect, &mut self.columns) {
-            Ok(table) => Ok(Table { stop: start + table.stop, ..table }),
-            Err(error) => Err(error.behind(0, start)),
+            Ok(table) => {
+                self.move_texts(table.rows, 0);
+                Ok(Table { stop: start + table.stop, ..table })
+            }
+            Err(error) => {
+                if error.error.place().is_some() {
+                    self.move_texts(error.row, error.column);
+                }
+                Err(error.behind(0, start))
+            }
         }
     }
 
     /// Reads the rows behind the header of a text, but skips and counts those at fault, as [`parse_table_skipping`]
-    /// does. Places count from the text's start.
+    /// does. Places count from the text's start, those of texts too.
     pub fn read_skipping<'b>(
         &mut self,
         text: impl AsRef<[u8]>,
@@ -296,10 +306,20 @@ impl<'a> Columns<'a> {
         let (start, rows) = (self.header.stop, text.as_ref().get(self.header.stop..));
         let told = parse_table_skipping(rows.unwrap_or(&[]), dialect, &mut self.columns, bad)?;
         let Skipping { rows, bad_rows, stop, .. } = told;
+        self.move_texts(rows, 0);
         let room = bad_rows.min(bad.len());
         let bad = &mut bad[..room];
         bad.iter_mut().for_each(|row| *row = row.behind(0, start));
         Ok(Skipping { rows, bad_rows, bad, stop: start + stop })
+    }
+
+    /// Has the places of texts that were read behind the header count from the text's start: those of so many rows, and
+    /// of so many cells behind them.
+    fn move_texts(&mut self, rows: usize, cells: usize) {
+        let start = self.header.stop;
+        for (index, column) in self.columns.iter_mut().enumerate() {
+            column.move_texts(rows + usize::from(index < cells), start);
+        }
     }
 }
 
@@ -338,14 +358,4 @@ fn name_of(cell: &[u8], dialect: &Dialect<'_>) -> Vec<u8> {
         name.drain(..name.iter().position(is_no_blank).unwrap_or(0));
     }
     name
-}
-
-/// A text with one quote for two.
-fn folded(held: &[u8]) -> Vec<u8> {
-    let mut is_second = false;
-    let keep = |byte: &&u8| {
-        is_second = **byte == b'"' && !is_second;
-        **byte != b'"' || is_second
-    };
-    held.iter().filter(keep).copied().collect()
 }

@@ -13,8 +13,8 @@
 //! from 1, as an editor does, and bytes from 0.
 //!
 //! No call panics, and none allocates, but what the feature `std` has: `ColumnReader` and `TableReader` hold a block,
-//! and `Header` and `Columns` names. The proofs are of the library below these calls: that this crate hands its texts
-//! over and its answers back is tested.
+//! `Header` and `Columns` names, and `CellText::folded` makes a text. The proofs are of the library below these calls:
+//! that this crate hands its texts over and its answers back is tested.
 #![no_std]
 
 // The example of the README is a test too.
@@ -25,6 +25,7 @@ struct Readme;
 mod bad_rows;
 #[cfg(feature = "std")]
 mod block;
+mod cell_text;
 mod cells;
 mod column;
 mod error;
@@ -52,6 +53,7 @@ mod typed_literal;
 mod within;
 
 pub use bad_rows::{parse_table_part_skipping, parse_table_skipping, row_place, BadRow, Skipping};
+pub use cell_text::CellText;
 pub use column::{
     field_start, parse_column, parse_column_part, parse_column_part_with_format,
     parse_column_with_format, Column, ColumnError, ColumnInteger,

@@ -92,7 +92,8 @@ impl<'a> Dialect<'a> {
         self
     }
 
-    /// What stands for a missing number, byte for byte, in columns that have bits for it: at first an empty cell.
+    /// What stands for a missing number or text, byte for byte, in columns that have bits for it: at first an empty
+    /// cell.
     pub const fn missing(mut self, mark: &'a [u8]) -> Self {
         self.0.missing = mark.as_ptr().cast();
         self.0.missing_len = mark.len();

@@ -1,6 +1,6 @@
 //! The columns of a table: what their cells look like, and the slices that these go to.
 
-use crate::{ColumnInteger, Format};
+use crate::{CellText, ColumnInteger, Fixed, Format};
 use core::marker::PhantomData;
 use jadvolni_sys as sys;
 
@@ -20,13 +20,46 @@ impl<'a> TableColumn<'a> {
 
     /// A column whose numbers go to a slice, under a format.
     pub fn with_format<T: TableInteger>(numbers: &'a mut [T], format: &Format) -> Self {
-        let mut column = sys::jadvolni_table_column { format: format.0, ..UNREAD };
-        T::put_into(&mut column, numbers);
+        Self::into_slice(numbers, sys::jadvolni_table_column { format: format.0, ..UNREAD })
+    }
+
+    /// A column whose fixed-point numbers go to a slice, in units of the last place. Where the description has no
+    /// places, they are integers in the format of its integer part.
+    ///
+    /// ```
+    /// use jadvolni::{parse_table, Dialect, Fixed, TableColumn};
+    /// let amount = Fixed::of_places(2).point(b',').group_separator(Some(b'.'));
+    /// let (mut days, mut cents) = ([0u16; 2], [0i64; 2]);
+    /// let mut columns = [TableColumn::of(&mut days), TableColumn::of_fixed(&mut cents, &amount)];
+    /// parse_table("1;-1.234,50\n2;7,00\n", &Dialect::separated_by(b';'), &mut columns)?;
+    /// assert_eq!((days, cents), ([1, 2], [-123450, 700]));
+    /// # Ok::<(), jadvolni::TableError>(())
+    /// ```
+    pub fn of_fixed<T: TableInteger>(numbers: &'a mut [T], fixed: &Fixed) -> Self {
+        let sys::jadvolni_fixed { integer: format, point, places, takes_fewer, reserved } = fixed.0;
+        let fixed =
+            sys::jadvolni_table_column { format, point, places, takes_fewer, reserved, ..UNREAD };
+        Self::into_slice(numbers, fixed)
+    }
+
+    /// A column of texts, of which it goes to a slice where each stands. A cell may hold any bytes, and doubled quotes
+    /// within its own.
+    pub fn of_texts(texts: &'a mut [CellText]) -> Self {
+        Self::into_slice(CellText::as_kept(texts), UNREAD)
+    }
+
+    /// A column that goes to a slice.
+    fn into_slice<T: TableArray>(
+        items: &'a mut [T],
+        mut column: sys::jadvolni_table_column,
+    ) -> Self {
+        T::put_into(&mut column, items);
         TableColumn(column, PhantomData)
     }
 
-    /// The same column, where numbers may be missing: the bit `k & 7` of byte `k >> 3` is then 1 if row `k` has a
-    /// number, and 0 if it is missing, and 0 in the slice. The lowest bit comes first, and [`is_present`] asks for one.
+    /// The same column, where numbers or texts may be missing: the bit `k & 7` of byte `k >> 3` is then 1 if row `k` has
+    /// one, and 0 if it is missing, and then 0 or [`CellText::NONE`] is in the slice. The lowest bit comes first, and
+    /// [`is_present`] asks for one.
     pub fn with_bits(mut self, present: &'a mut [u8]) -> Self {
         self.0.present = array_of(present);
         self
@@ -39,7 +72,30 @@ impl<'a> TableColumn<'a> {
     }
 }
 
-/// Whether a row has a number, by the bits of its column. A row that they have no bit for has none.
+#[cfg(feature = "std")]
+impl TableColumn<'_> {
+    /// Has the places of the texts in the first rows count from so many bytes before what was read. Missing ones stay.
+    pub(crate) fn move_texts(&mut self, rows: usize, bytes: usize) {
+        let (text, present) = (self.0.text, self.0.present);
+        if text.numbers.is_null() {
+            return;
+        }
+        let room = rows.min(text.capacity);
+        // SAFETY: the texts and the bits are those of slices that the column has borrowed alone.
+        let (texts, bits) = unsafe {
+            let bits = || core::slice::from_raw_parts(present.numbers, present.capacity);
+            let texts = core::slice::from_raw_parts_mut(text.numbers, room);
+            (texts, (!present.numbers.is_null()).then(bits))
+        };
+        for (row, text) in texts.iter_mut().enumerate() {
+            if bits.map_or(true, |bits| is_present(bits, row)) {
+                text.start = text.start.saturating_add(bytes);
+            }
+        }
+    }
+}
+
+/// Whether a row has a number or a text, by the bits of its column. A row that they have no bit for has none.
 ///
 /// ```
 /// use jadvolni::{is_present, parse_table, Dialect, TableColumn};
@@ -98,7 +154,9 @@ macro_rules! arrays {
     };
 }
 
-arrays! { i64: i64 u64: u64 i32: i32 u32: u32 i16: i16 u16: u16 i8: i8 u8: u8 }
+arrays! {
+    i64: i64 u64: u64 i32: i32 u32: u32 i16: i16 u16: u16 i8: i8 u8: u8 text: sys::jadvolni_cell_text
+}
 
 /// The types whose arrays have numbers.
 macro_rules! integers {

@@ -40,6 +40,8 @@ pub struct TableReader<'a, R> {
     block: Block,
     parsed: usize,
     filled: usize,
+    /// Where the last call has begun to parse.
+    first: usize,
     /// How many bytes were left when they last had no whole row, and what finds a row's end in more.
     tried: usize,
     ends: RowEnds,
@@ -75,6 +77,7 @@ impl<'a, R: Read> TableReader<'a, R> {
             block: Block::of(size),
             parsed: 0,
             filled: 0,
+            first: 0,
             tried: 0,
             ends: RowEnds::new(&dialect),
             start: 0,
@@ -132,13 +135,15 @@ impl<'a, R: Read> TableReader<'a, R> {
 
     /// Reads rows into the columns' slices, from their front, and answers how many: 0 at the table's end.
     ///
-    /// They are as many as the slices have room for or a block holds, and one at least where there is room.
+    /// They are as many as the slices have room for or a block holds, and one at least where there is room. The places
+    /// of texts count within [`TableReader::block`].
     pub fn read(&mut self, columns: &mut [TableColumn<'_>]) -> Result<usize, TableReadError> {
         while !self.has_ended && capacity(columns) > 0 {
             if !self.may_have_row() {
                 self.fill()?;
                 continue;
             }
+            self.first = self.parsed;
             let text = &self.block[self.parsed..self.filled];
             match parse_table_part(text, self.is_last, &self.dialect, columns) {
                 Ok(table) => {
@@ -201,6 +206,28 @@ impl<'a, R: Read> TableReader<'a, R> {
         Ok(0)
     }
 
+    /// The bytes from which the last call has read its rows. The places of their texts count from its start: take these
+    /// before the next call.
+    ///
+    /// ```
+    /// use jadvolni::{CellText, Dialect, TableColumn, TableReader};
+    /// let mut rows = TableReader::with_capacity(9, &b"1,rent\n2,food\n"[..], Dialect::separated_by(b','));
+    /// let (mut purposes, mut told) = ([CellText::NONE; 9], vec![]);
+    /// loop {
+    ///     let mut columns = [TableColumn::UNREAD, TableColumn::of_texts(&mut purposes)];
+    ///     let count = rows.read(&mut columns)?;
+    ///     if count == 0 {
+    ///         break;
+    ///     }
+    ///     told.extend(purposes[..count].iter().map(|purpose| purpose.of(rows.block()).to_vec()));
+    /// }
+    /// assert_eq!(told, [b"rent", b"food"]);
+    /// # Ok::<(), jadvolni::TableReadError>(())
+    /// ```
+    pub fn block(&self) -> &[u8] {
+        &self.block[self.first..self.filled]
+    }
+
     /// How many rows were skipped since they were at fault.
     pub fn bad_rows(&self) -> usize {
         self.bad_rows
@@ -212,6 +239,7 @@ impl<'a, R: Read> TableReader<'a, R> {
         columns: &mut [TableColumn<'_>],
         tell: &mut impl FnMut(TableFault),
     ) -> Result<usize, TableReadError> {
+        self.first = self.parsed;
         let text = &self.block[self.parsed..self.filled];
         let (is_last, dialect) = (self.is_last, &self.dialect);
         let (rows, bad_rows, stop) = loop {
@@ -299,6 +327,7 @@ impl<'a, R: Read> TableReader<'a, R> {
         self.start += self.parsed;
         self.filled -= self.parsed;
         self.parsed = 0;
+        self.first = 0;
         if self.block.is_full(self.filled) {
             self.has_ended = true;
             return Err(self.long_row());
