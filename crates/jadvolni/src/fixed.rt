@@ -90,7 +90,21 @@ impl FixedFields {
         if self.places == 0 {
             return self.integer.status();
         }
-        jadvolni_fixed_error(self)
+        self.description_status()
+    }
+
+    // The status of the description, as C asks for it. Two calls ask, once each.
+    #[inline(never)]
+    fn description_status(&self) -> u32
+        ensures { result ≡ fixed_format_status self.now }
+    {
+        if !self.are_known() {
+            return UNKNOWN_FIELD;
+        }
+        match self.format().error() {
+            None => 0,
+            Some(error) => fixed_status(error),
+        }
     }
 
     // Whether the integer part has the standard format, and nothing that is unknown: its fields say so, or all are 0.
@@ -284,11 +298,5 @@ pub fn fixed_front<T: Integer, S: Slot<T>>(
 pub extern "C" fn jadvolni_fixed_error(fixed: &FixedFields) -> u32
     ensures { result ≡ fixed_format_status fixed.now }
 {
-    if !fixed.are_known() {
-        return UNKNOWN_FIELD;
-    }
-    match fixed.format().error() {
-        None => 0,
-        Some(error) => fixed_status(error),
-    }
+    fixed.description_status()
 }
