@@ -24,7 +24,7 @@ use Rattle.lexical_parse_integer.specs.Laws.{TellsDigits}
 use Rattle.lexical_parse_integer.specs.Plain.{BeginsWith, IsBehind, IsPlain}
 use Rattle.lexical_parse_integer.specs.Runs.{are_same, digit_at}
 use Rattle.lexical_parse_integer.specs.Stops.{stops_after_digit}
-use Rattle.lexical_parse_integer.proofs.plain.DigitsInFront.{begins_read}
+use Rattle.lexical_parse_integer.proofs.ForCallers.{begins_read}
 use Rattle.lexical_fixed.specs.Fixed.{Fixed}
 use Rattle.lexical_fixed.specs.Grammar.{complete_fixed, is_negative}
 use Rattle.lexical_fixed.specs.Quick.{IsBare, IsFraction, IsJoined, IsLastPoint, without}

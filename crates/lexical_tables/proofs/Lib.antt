@@ -1,6 +1,5 @@
 -- The proofs beside the functions, a file for each idea.
 pub mod CellEnds
-pub mod CellRows
 pub mod CellSteps
 pub mod CellsAlone
 pub mod CellsLeft
@@ -13,9 +12,7 @@ pub mod ColumnTables
 pub mod ColumnsInParts
 pub mod EndLooks
 pub mod EndedCells
-pub mod FoldRows
 pub mod FoldSteps
-pub mod KindRows
 pub mod LineSteps
 pub mod Looks
 pub mod MarkedCells
@@ -31,14 +28,12 @@ pub mod PutSteps
 pub mod QuoteSteps
 pub mod QuotesUnread
 pub mod ReadAlone
-pub mod RecordRows
 pub mod RecordSteps
-pub mod ReturnRows
 pub mod RowSteps
 pub mod RowsInParts
 pub mod SeenBytes
 pub mod skipped
 pub mod Unquoted
 pub mod WholeRows
-pub mod WidthRows
+pub mod worked
 mod ZeroRule

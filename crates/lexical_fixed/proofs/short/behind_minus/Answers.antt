@@ -1,6 +1,6 @@
 use Rattle.std.proofs.Common.{◌&&◌, Bool, get_or, arith, ap, ◌∙◌}
 use Rattle.std.specs.Prelude.{◌==◌}
-use Rattle.lexical_parse_integer.proofs.plain.DigitsAlone.{behind_is}
+use Rattle.lexical_parse_integer.proofs.ForCallers.{behind_is}
 use Rattle.lexical_fixed.proofs.ShortNumbers.{minus_is}
 use Rattle.lexical_fixed.proofs.short.behind_minus.Goals as goal
 
