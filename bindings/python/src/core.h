@@ -164,8 +164,8 @@ int raise_beyond(const core_state *state, jadvolni_result answer, const borrowed
 
 /* The rows of a text from one place to another: _parse_table(text, from, to, is_last, how, columns, at,
  * capacity, bad), where `how` is separator, has_returns, has_quotes, allows_blanks, skips_empty_rows,
- * missing, widths, which are an array of size_t, and is_records. A column is None, or its numbers, bits or
- * None, type and format; rows go there from `at` on. It gives how many rows were read, how many bytes they
+ * missing, widths, which are an array of size_t, is_records and allows_returns. A column is None, or its
+ * numbers, bits or None, type or Fixed, and format; rows go there from `at` on. It gives how many rows were read, how many bytes they
  * had, how many bad rows were skipped, and the faults that are told. Where `bad` is -1, the first bad row
  * ends the reading, and is told. Else they are skipped: for 0 none is told, and else all, since reading stops
  * behind so many. */

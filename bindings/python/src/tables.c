@@ -80,17 +80,32 @@ static int bits_of(columns *all, Py_ssize_t index)
     return column->present.bytes ? 0 : -1;
 }
 
-/* A column that is read: its numbers, its bits or None, its type and its format. */
+/* How the cells of a column are written. */
+static void write_notation(const notation *written, jadvolni_table_column *column)
+{
+    if (!written->is_fixed) {
+        column->format = written->format;
+        return;
+    }
+    column->format = written->fixed.integer;
+    column->point = written->fixed.point;
+    column->places = written->fixed.places;
+    column->takes_fewer = written->fixed.takes_fewer;
+}
+
+/* A column that is read: its numbers, its bits or None, its type or its Fixed, and its format. */
 static int column_of(const core_state *state, PyObject *given, columns *all, Py_ssize_t index)
 {
     jadvolni_table_column *column = &all->columns[index];
     Py_buffer *rooms = &all->rooms[2 * index];
     PyObject *values, *bits, *kind, *format;
-    if (!PyArg_ParseTuple(given, "OOOO", &values, &bits, &kind, &format))
+    notation written;
+    if (!PyArg_ParseTuple(given, "OOOO", &values, &bits, &kind, &format)
+        || notation_of(state, kind, format, &written) < 0)
         return -1;
-    const number_type *type = type_of(kind);
-    if (!type || format_of(state, format, &column->format) < 0
-        || lend(values, type, &rooms[0]) < 0
+    const number_type *type = written.type;
+    write_notation(&written, column);
+    if (lend(values, type, &rooms[0]) < 0
         || (bits != Py_None && (lend(bits, &BITS, &rooms[1]) < 0 || bits_of(all, index) < 0)))
         return -1;
     size_t count = (size_t)rooms[0].len / type->size, at = all->at < count ? all->at : count;
@@ -206,9 +221,9 @@ static int table_of(PyObject *given, jadvolni_table *table, borrowed_text *missi
                     Py_buffer *widths)
 {
     PyObject *separator, *mark, *sizes;
-    int flags[5];
-    if (!PyArg_ParseTuple(given, "OppppOOp", &separator, &flags[0], &flags[1], &flags[2], &flags[3],
-                          &mark, &sizes, &flags[4]))
+    int flags[6];
+    if (!PyArg_ParseTuple(given, "OppppOOpp", &separator, &flags[0], &flags[1], &flags[2], &flags[3],
+                          &mark, &sizes, &flags[4], &flags[5]))
         return -1;
     int byte = separator_of(separator);
     if (byte < 0 || borrow("missing", mark, missing) < 0
@@ -221,6 +236,7 @@ static int table_of(PyObject *given, jadvolni_table *table, borrowed_text *missi
         .allows_blanks = (uint8_t)flags[2],
         .skips_empty_rows = (uint8_t)flags[3],
         .is_records = (uint8_t)flags[4],
+        .allows_returns = (uint8_t)flags[5],
         .missing = missing->bytes,
         .missing_len = missing->len,
         .widths = widths->buf,
@@ -317,13 +333,15 @@ PyObject *parse_table(PyObject *module, PyObject *const *args, Py_ssize_t count)
     return rows;
 }
 
-/* The code of the arrays of a type. */
+/* The code of the arrays of a type, or of that of a Fixed. */
 PyObject *array_code(PyObject *module, PyObject *given)
 {
-    (void)module;
-    const number_type *type = type_of(given);
-    if (type && !type->array_code)
+    notation written;
+    if (notation_of(PyModule_GetState(module), given, NULL, &written) < 0)
+        return NULL;
+    const number_type *type = written.type;
+    if (!type->array_code)
         PyErr_Format(PyExc_ValueError, "type has to have 64 bits or fewer in a column, and not %s",
                      type->name);
-    return type && type->array_code ? PyUnicode_FromString(type->array_code) : NULL;
+    return type->array_code ? PyUnicode_FromString(type->array_code) : NULL;
 }

@@ -15,15 +15,20 @@ from ._table import Sparse, Table
 
 if TYPE_CHECKING:
     from ._core import NumberType, ParseError, Text
+    from ._fixed import Fixed
 
-    # What is read of a column: nothing, numbers of a type, or what a Column says.
-    Columns = Mapping[str, Optional[Union[NumberType, "Column"]]]
+    # What is read of a column: nothing, numbers of a type, amounts, or what a Column says.
+    Columns = Mapping[str, Optional[Union[NumberType, Fixed, "Column"]]]
 
 
 class Column(NamedTuple):
-    """What is read of a column: numbers of a type, under a format, of which some may be missing."""
+    """What is read of a column: numbers of a type, under a format, of which some may be missing.
 
-    type: NumberType
+    A Fixed in the place of the type reads fixed-point numbers, in units of their last place. It has
+    a format of its own.
+    """
+
+    type: Union[NumberType, Fixed]
     format: Optional[Format] = None
     may_miss: bool = False
 
@@ -39,6 +44,7 @@ class How(NamedTuple):
     missing: Text = b""
     widths: Optional[Iterable[int]] = None
     is_records: bool = False
+    allows_returns: bool = False
 
 
 # Where bad rows are told, so many bytes are read at once, and so many are told at most.
@@ -89,7 +95,7 @@ class Reader:
         if how.is_records and not sizes:
             raise ValueError("widths have to be there where is_records is true")
         separator = b"," if how.separator is None else how.separator
-        self.how = (separator, *how[1:6], sizes, how.is_records)
+        self.how = (separator, *how[1:6], sizes, how.is_records, how.allows_returns)
         self.has_quotes = bool(how.has_quotes)
         self.record = min(max(sum(sizes), 1), sys.maxsize) if how.is_records else 0
         self.at_fault = at

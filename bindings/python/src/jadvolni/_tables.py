@@ -105,28 +105,30 @@ def parse_table(
     out: Optional[Mapping[str, Any]] = None,
     threads: int = 1,
     *,
+    allows_returns: bool = False,
     header: bool = False,
     on_error: OnError = "raise",
     errors: Errors = None,
 ) -> Table:
     """The rows of a text, each column as an array.
 
-    `columns` names the cells of a row in their order, each with its type, a Column, or None where
-    it isn't read. A row has one cell more than separators, by default commas. The arrays are
-    NumPy's where it is installed, and else of the module array; or those of `out`, up to the last
-    row.
+    `columns` names the cells of a row in their order, each with its type, a Fixed, a Column, or
+    None where it isn't read. A row has one cell more than separators, by default commas. The arrays
+    are NumPy's where it is installed, and else of the module array; or those of `out`, up to the
+    last row.
 
     header: the first line has the names of the columns. Those of `columns` choose among them, in
     any order, and no other is read; ValueError tells of one that is missing or stands twice. A byte
     order mark may stand before the header.
 
-    has_returns: a return stands before each line feed. has_quotes: a cell may stand within '"'.
-    allows_blanks: spaces and tabs may stand around a number or `missing`. skips_empty_rows: a row
-    without a byte is none. missing: what stands for a missing number where a Column has may_miss,
-    which then is a Sparse: by default an empty cell. widths: how many bytes each column's cells
-    have, in the place of separators. is_records: rows have as many bytes as the widths together,
-    at least one, and no line feed behind them. threads: how many read the text, in parts; at a
-    fault `out` then may hold anything.
+    has_returns: a return stands before each line feed. allows_returns: one may stand there, so that
+    each row may end either way; any other is a byte of its cell. has_quotes: a cell may stand
+    within '"'. allows_blanks: spaces and tabs may stand around a number or `missing`.
+    skips_empty_rows: a row without a byte is none. missing: what stands for a missing number where
+    a Column has may_miss, which then is a Sparse: by default an empty cell. widths: how many bytes
+    each column's cells have, in the place of separators. is_records: rows have as many bytes as the
+    widths together, at least one, and no line feed behind them. threads: how many read the text, in
+    parts; at a fault `out` then may hold anything.
 
     ParseError has the first wrong cell in reading order: its `row`, `line`, `column` and `name`,
     its first bytes as `text`, the `place` of the wrong byte, and its row from `row_start` to
@@ -139,7 +141,7 @@ def parse_table(
     in the order of the rows. What it raises ends the reading.
     """
     how = How(separator, has_returns, has_quotes, allows_blanks, skips_empty_rows, missing, widths,
-              is_records)
+              is_records, allows_returns)
     return _parse_text(text, columns, how, at_fault(on_error, errors), out, threads, header)
 
 
@@ -169,6 +171,7 @@ def read_table(
     size: int = 1 << 20,
     progress: Optional[Callable[[int], object]] = None,
     mmap: bool = False,
+    allows_returns: bool = False,
     header: bool = False,
     on_error: OnError = "raise",
     errors: Errors = None,
@@ -181,7 +184,7 @@ def read_table(
     program may write to the file: one that is cut short meanwhile ends this process by a signal.
     """
     how = How(separator, has_returns, has_quotes, allows_blanks, skips_empty_rows, missing, widths,
-              is_records)
+              is_records, allows_returns)
     if not isinstance(file, (str, os.PathLike)):
         if mmap:
             raise TypeError("file has to be a path where mmap is true")
@@ -286,6 +289,7 @@ def iter_table(
     progress: Optional[Callable[[int], object]] = None,
     *,
     threads: int = 1,
+    allows_returns: bool = False,
     header: bool = False,
     on_error: OnError = "raise",
     errors: Errors = None,
@@ -301,7 +305,7 @@ def iter_table(
     rows, size = _one_or_more("rows", rows), _one_or_more("size", size)
     threads, row = _one_or_more("threads", threads), 0
     how = How(separator, has_returns, has_quotes, allows_blanks, skips_empty_rows, missing, widths,
-              is_records)
+              is_records, allows_returns)
     told = progress if threads == 1 else None
     at = at_fault(on_error, errors, getattr(file, "name", None))
     reader, blocks, start = _opened(file, columns, how, at, size, size, told, header)
