@@ -79,7 +79,7 @@ def _parse_table(
     stop: int,
     is_last: bool,
     how: tuple[Any, ...],
-    columns: tuple[Optional[tuple[Any, Any, Union[NumberType, Fixed], Optional[Format]]], ...],
+    columns: tuple[Optional[tuple[Any, ...]], ...],
     at: int,
     rows: int,
     bad: int,

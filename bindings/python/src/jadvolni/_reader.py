@@ -11,24 +11,26 @@ from ._core import _array_code, _parse_table, _row_count, _text_size
 from ._faults import AtFault, Fault, Part, error_of
 from ._format import Format, _integer
 from ._header import ask_names
+from . import _texts
 from ._table import Sparse, Table
 
 if TYPE_CHECKING:
     from ._core import NumberType, ParseError, Text
     from ._fixed import Fixed
 
-    # What is read of a column: nothing, numbers of a type, amounts, or what a Column says.
-    Columns = Mapping[str, Optional[Union[NumberType, Fixed, "Column"]]]
+    # What is read of a column: None, a type, a Fixed, a Text or a Column. Checkers of types take a
+    # dict that has several of these for one of any objects.
+    Columns = Mapping[str, Any]
 
 
 class Column(NamedTuple):
     """What is read of a column: numbers of a type, under a format, of which some may be missing.
 
-    A Fixed in the place of the type reads fixed-point numbers, in units of their last place. It has
-    a format of its own.
+    A Fixed in the place of the type reads fixed-point numbers, in units of their last place, and a
+    Text reads texts. Neither goes with a format.
     """
 
-    type: Union[NumberType, Fixed]
+    type: Union[NumberType, Fixed, _texts.Text]
     format: Optional[Format] = None
     may_miss: bool = False
 
@@ -72,8 +74,15 @@ def _sizes(widths: Iterable[int], count: int) -> array[int]:
 
 def pair_of(values: Any) -> tuple[Any, Any]:
     """The numbers of a column, and its bits or None."""
-    numbers, bits = values if isinstance(values, tuple) else (values, None)
+    numbers, bits = values[:2] if isinstance(values, tuple) else (values, None)
     return numbers, bits
+
+
+def with_pair(values: Any, numbers: Any, bits: Any) -> Any:
+    """A column as another one is, with these numbers, and bits or None. Texts keep their bytes."""
+    if isinstance(values, _texts.Room):
+        return values._replace(sizes=numbers, bits=bits)
+    return numbers if bits is None else Sparse(numbers, bits)
 
 
 class Reader:
@@ -85,6 +94,9 @@ class Reader:
         ask_type("columns", columns, Mapping, "a dict")
         self.read = {name: it if isinstance(it, Column) else Column(it)
                      for name, it in columns.items() if it is not None}
+        for column in self.read.values():
+            if isinstance(column.type, _texts.Text) and column.format is not None:
+                raise TypeError("format has to be None where the type is a Text")
         if names is not None:
             ask_names(columns, names, how)
         # The cells of a row, each with its name; a name that isn't read may come twice.
@@ -111,12 +123,16 @@ class Reader:
 
     def room(self, rows: int) -> Table:
         """Arrays for so many rows, whose numbers may be any."""
-        return Table({name: self._room(column, rows) for name, column in self.read.items()})
+        return Table({name: self.room_of(column, rows) for name, column in self.read.items()})
 
-    def _room(self, column: Column, rows: int) -> Any:
+    def room_of(self, column: Column, rows: int) -> Any:
         """What a column of so many rows is read into."""
-        numbers = new_array(self.numpy, _array_code(column.type), rows)
-        return Sparse(numbers, self.bits(rows)) if column.may_miss else numbers
+        kind, bits = column.type, self.bits(rows) if column.may_miss else None
+        if isinstance(kind, _texts.Text):
+            sizes = new_array(self.numpy, "q", rows)
+            return _texts.Room(sizes, bits, bytearray(), kind.encoding)
+        numbers = new_array(self.numpy, _array_code(kind), rows)
+        return numbers if bits is None else Sparse(numbers, bits)
 
     def bits(self, rows: int) -> Any:
         """The bits of so many rows, which are 0."""
@@ -140,7 +156,9 @@ class Reader:
         The first bad row ends the reading, and is told. Or they are skipped: none is told for 0,
         and else so many at most, and then the next call goes on behind them.
         """
-        read = {name: (*pair_of(arrays[name]), it.type, it.format)
+        read = {name: (*pair_of(arrays[name]), it.type, it.format,
+                       getattr(arrays[name], "data", None) if isinstance(it.type, _texts.Text)
+                       else None)
                 for name, it in self.read.items()}
         columns = tuple(map(read.get, self.cells))
         if told <= 0:

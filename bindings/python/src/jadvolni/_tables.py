@@ -18,6 +18,7 @@ from ._header import ask_header, read_header
 from ._reader import How, Reader, ask_type
 from ._rows import Rows
 from ._table import Table
+from ._texts import Text as TextKind
 from ._threads import bytes_of, parse_in_threads, raise_changed, rows_in_threads
 
 if TYPE_CHECKING:
@@ -33,9 +34,10 @@ def _writable_size(values: Any) -> int:
 
 
 def _room_of(reader: Reader, out: Mapping[str, Any], rows: int) -> Table:
-    """The caller's arrays, which have to be for so many rows."""
+    """The caller's arrays, which have to be for so many rows, and new ones for texts."""
     ask_type("out", out, Mapping, "a dict or None")
-    for name, column in reader.read.items():
+    numbers = {name: it for name, it in reader.read.items() if not isinstance(it.type, TextKind)}
+    for name, column in numbers.items():
         given: Any = out.get(name)
         is_pair = isinstance(given, tuple) and len(given) == 2
         sizes = [_writable_size(it) for it in (given if is_pair else (given,))]
@@ -44,7 +46,8 @@ def _room_of(reader: Reader, out: Mapping[str, Any], rows: int) -> Table:
             raise ValueError(f"out has to have {wanted} to write to for the column {name!r}")
         if any(size < needed for size, needed in zip(sizes, (rows, (rows + 7) // 8))):
             raise ValueError(f"out has to have room for the {rows} rows of the text")
-    return Table({name: out[name] for name in reader.read})
+    return Table({name: out[name] if name in numbers else reader.room_of(column, rows)
+                  for name, column in reader.read.items()})
 
 
 def _parse(
@@ -112,10 +115,10 @@ def parse_table(
 ) -> Table:
     """The rows of a text, each column as an array.
 
-    `columns` names the cells of a row in their order, each with its type, a Fixed, a Column, or
-    None where it isn't read. A row has one cell more than separators, by default commas. The arrays
-    are NumPy's where it is installed, and else of the module array; or those of `out`, up to the
-    last row.
+    `columns` names the cells of a row in their order, each with its type, a Fixed, a Text, a
+    Column, or None where it isn't read. A row has one cell more than separators, by default commas.
+    The arrays are NumPy's where it is installed, and else of the module array; or those of `out`,
+    up to the last row. Texts are a TextColumn, and have no place in `out`.
 
     header: the first line has the names of the columns. Those of `columns` choose among them, in
     any order, and no other is read; ValueError tells of one that is missing or stands twice. A byte
