@@ -3,8 +3,6 @@
  */
 #include "core.h"
 
-#include <stdlib.h>
-
 /* An array of a column of the library, whatever its type. */
 typedef struct array {
     void *numbers;
@@ -201,58 +199,6 @@ static int join(const columns *all, const borrowed_text *part, size_t rows)
     return made;
 }
 
-/* Where the bytes of an array are. */
-typedef struct span {
-    uintptr_t start;
-    uintptr_t stop;
-} span;
-
-static int by_start(const void *one, const void *other)
-{
-    uintptr_t first = ((const span *)one)->start, second = ((const span *)other)->start;
-    return (first > second) - (first < second);
-}
-
-/* Puts the arrays that have bytes to spans, in the order of memory, and answers how many. */
-static size_t spans_of(const columns *all, span *spans)
-{
-    size_t count = 0;
-    for (const Py_buffer *it = all->rooms; it < all->rooms + 2 * all->count; it++)
-        if (it->len)
-            spans[count++] = (span){(uintptr_t)it->buf, (uintptr_t)it->buf + (size_t)it->len};
-    qsort(spans, count, sizeof *spans, by_start);
-    return count;
-}
-
-/* Whether arrays share no byte with each other, or with two texts. */
-static int are_apart(const span *spans, size_t count, const borrowed_text *text,
-                     const borrowed_text *missing)
-{
-    uintptr_t first = (uintptr_t)text->bytes, second = (uintptr_t)missing->bytes;
-    int apart = 1;
-    for (size_t k = 0; k < count; k++) {
-        apart &= k == 0 || spans[k - 1].stop <= spans[k].start;
-        apart &= !text->len || spans[k].stop <= first || first + text->len <= spans[k].start;
-        apart &= !missing->len || spans[k].stop <= second || second + missing->len <= spans[k].start;
-    }
-    return apart;
-}
-
-/* Asks that the arrays have memory of their own. -1 with an exception. */
-static int ask_apart(const columns *all, const borrowed_text *text, const borrowed_text *missing)
-{
-    span *spans = PyMem_Calloc((size_t)all->count + 1, 2 * sizeof *spans);
-    if (!spans) {
-        PyErr_NoMemory();
-        return -1;
-    }
-    int apart = are_apart(spans, spans_of(all, spans), text, missing);
-    PyMem_Free(spans);
-    if (!apart)
-        PyErr_SetString(PyExc_ValueError, "out has to have memory of its own for each array");
-    return apart ? 0 : -1;
-}
-
 /* What a call is asked: the part of a text from one place to another, how the table is written, and how many
  * bad rows it tells, or -1 where the first one ends the reading. */
 typedef struct question {
@@ -368,7 +314,8 @@ static PyObject *answer_of(const core_state *state, question *asked, PyObject *c
     asked->part = part_of(&asked->text, asked->from, asked->to);
     if (all->capacity > asked->part.len) /* (a row has a byte, also a bad one) */
         all->capacity = asked->part.len;
-    if (columns_of(state, args[5], all) < 0 || ask_apart(all, &asked->part, &asked->missing) < 0)
+    if (columns_of(state, args[5], all) < 0
+        || ask_apart(all->rooms, 2 * all->count, &asked->part, &asked->missing) < 0)
         return NULL;
     return asked->bad < 0 ? rows_of(state, asked, all) : right_rows_of(state, asked, all);
 }

@@ -77,6 +77,14 @@ class Texts(unittest.TestCase):
                 table = read_table(io.BytesIO(text), column, size=size, **given)
                 self.assertEqual(table["a"].tolist(), wanted)
 
+    def test_blanks_are_part_of_a_text(self):
+        column = {"a": Column(Text(), may_miss=True), "b": "u8"}
+        text = ' ,1\n NA ,2\n"NA",3\n,5\nNA, 6\n'
+        for missing, wanted in (("", [" ", " NA ", "NA", None, "NA"]),
+                                ("NA", [" ", " NA ", None, "", None])):
+            table = parse_table(text, column, allows_blanks=True, has_quotes=True, missing=missing)
+            self.assertEqual(table["a"].tolist(), wanted)
+
     def test_encodings(self):
         text = "Bücher,1\n€,2\n".encode("cp1252")
         for encoding, wanted in (("cp1252", ["Bücher", "€"]), (None, [b"B\xfccher", b"\x80"])):

@@ -78,6 +78,11 @@ def pair_of(values: Any) -> tuple[Any, Any]:
     return numbers, bits
 
 
+def _data_of(values: Any) -> Optional[bytearray]:
+    """Where the bytes of a column of texts go, and None for one of numbers."""
+    return values.data if isinstance(values, _texts.Room) else None
+
+
 def with_pair(values: Any, numbers: Any, bits: Any) -> Any:
     """A column as another one is, with these numbers, and bits or None. Texts keep their bytes."""
     if isinstance(values, _texts.Room):
@@ -156,9 +161,7 @@ class Reader:
         The first bad row ends the reading, and is told. Or they are skipped: none is told for 0,
         and else so many at most, and then the next call goes on behind them.
         """
-        read = {name: (*pair_of(arrays[name]), it.type, it.format,
-                       getattr(arrays[name], "data", None) if isinstance(it.type, _texts.Text)
-                       else None)
+        read = {name: (*pair_of(arrays[name]), it.type, it.format, _data_of(arrays[name]))
                 for name, it in self.read.items()}
         columns = tuple(map(read.get, self.cells))
         if told <= 0:

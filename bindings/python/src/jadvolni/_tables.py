@@ -128,10 +128,10 @@ def parse_table(
     each row may end either way; any other is a byte of its cell. has_quotes: a cell may stand
     within '"'. allows_blanks: spaces and tabs may stand around a number or `missing`.
     skips_empty_rows: a row without a byte is none. missing: what stands for a missing number where
-    a Column has may_miss, which then is a Sparse: by default an empty cell. widths: how many bytes
-    each column's cells have, in the place of separators. is_records: rows have as many bytes as the
-    widths together, at least one, and no line feed behind them. threads: how many read the text, in
-    parts; at a fault `out` then may hold anything.
+    a Column has may_miss, which then is a Sparse, or for a missing text: by default an empty cell.
+    widths: how many bytes each column's cells have, in the place of separators. is_records: rows
+    have as many bytes as the widths together, at least one, and no line feed behind them. threads:
+    how many read the text, in parts; at a fault `out` then may hold anything.
 
     ParseError has the first wrong cell in reading order: its `row`, `line`, `column` and `name`,
     its first bytes as `text`, the `place` of the wrong byte, and its row from `row_start` to

@@ -26,7 +26,8 @@ class Text:
     place of a type, and give a TextColumn.
 
     A text is what stands within the quotes of a cell that has them, where a table has quotes: each
-    doubled quote there is told as one. Blanks are part of it.
+    doubled quote there is told as one. Blanks are part of it, also where a table allows them. In a
+    Column with may_miss the text that is byte for byte the table's `missing` is None.
 
     encoding: How its bytes are read, as "cp1252". With None they are told as bytes.
 
