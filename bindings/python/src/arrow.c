@@ -58,11 +58,11 @@ static void release_schema(arrow_schema *schema)
     schema->release = NULL;
 }
 
-/* Arrow's name for the numbers of an array by its code. */
+/* Arrow's name for the numbers of an array by its code, or for texts. */
 static const char *format_of_code(const char *code)
 {
-    static const char *const names[][2] = {{"q", "l"}, {"Q", "L"}, {"i", "i"}, {"I", "I"},
-                                           {"h", "s"}, {"H", "S"}, {"b", "c"}, {"B", "C"}};
+    static const char *const names[][2] = {{"q", "l"}, {"Q", "L"}, {"i", "i"}, {"I", "I"}, {"h", "s"},
+                                           {"H", "S"}, {"b", "c"}, {"B", "C"}, {"U", "U"}, {"Z", "Z"}};
     for (size_t k = 0; k < sizeof names / sizeof *names; k++)
         if (strcmp(code, names[k][0]) == 0)
             return names[k][1];
@@ -70,19 +70,22 @@ static const char *format_of_code(const char *code)
     return NULL;
 }
 
-/* A column as a tuple has it: its name, the code of its numbers, these, and their bits or None. */
+/* A column as a tuple has it: its name, the code of its numbers, these, their bits or None, and the bytes of
+ * texts or None. */
 typedef struct column {
     const char *name;
     const char *format;
     PyObject *numbers;
     PyObject *bits;
+    PyObject *bytes;
 } column;
 
 static int column_at(PyObject *columns, Py_ssize_t index, column *found)
 {
     const char *code;
     PyObject *given = PyTuple_GetItem(columns, index);
-    if (!given || !PyArg_ParseTuple(given, "ssOO", &found->name, &code, &found->numbers, &found->bits))
+    if (!given || !PyArg_ParseTuple(given, "ssOOO", &found->name, &code, &found->numbers, &found->bits,
+                                    &found->bytes))
         return -1;
     found->format = format_of_code(code);
     return found->format ? 0 : -1;
@@ -137,10 +140,10 @@ static int fill_schema(arrow_schema *schema, PyObject *columns, int is_table)
 
 /* ---- arrays */
 
-/* What the array of a column borrows: its numbers and its bits. */
+/* What the array of a column borrows: its bits, its numbers, and the bytes of texts. */
 typedef struct loan {
-    const void *buffers[2];
-    Py_buffer views[2];
+    const void *buffers[3];
+    Py_buffer views[3];
 } loan;
 
 /* Gives back what was borrowed. Any thread may come here, and none once Python has ended. */
@@ -151,6 +154,7 @@ static void give_back_loan(loan *lent)
     PyGILState_STATE state = PyGILState_Ensure();
     PyBuffer_Release(&lent->views[0]);
     PyBuffer_Release(&lent->views[1]);
+    PyBuffer_Release(&lent->views[2]);
     PyGILState_Release(state);
     free(lent);
 }
@@ -181,10 +185,30 @@ static int lend(PyObject *values, Py_ssize_t size, const char *name, Py_buffer *
     return -1;
 }
 
+/* How many bytes each number of a column has. */
+static Py_ssize_t size_of_numbers(const char *format)
+{
+    static const char one[] = "cC", two[] = "sS", four[] = "iI";
+    return strchr(one, *format) ? 1 : strchr(two, *format) ? 2 : strchr(four, *format) ? 4 : 8;
+}
+
+/* Borrows the arrays of a column of so many rows. Texts have a place more, at which the last one stops. -1
+ * with an exception. */
+static int lend_column(const column *it, Py_ssize_t rows, loan *lent)
+{
+    int has_bits = it->bits != Py_None, has_texts = it->bytes != Py_None;
+    if (lend(it->numbers, (rows + has_texts) * size_of_numbers(it->format), it->name, &lent->views[1]) < 0
+        || (has_bits && lend(it->bits, (rows + 7) / 8, it->name, &lent->views[0]) < 0))
+        return -1;
+    if (!has_texts)
+        return 0;
+    const int64_t *places = lent->views[1].buf;
+    return lend(it->bytes, (Py_ssize_t)places[rows], it->name, &lent->views[2]);
+}
+
 /* Makes the array of a column of so many rows. -1 with an exception. */
 static int make_column(arrow_array *array, PyObject *columns, Py_ssize_t index, Py_ssize_t rows)
 {
-    static const char one[] = "cC", two[] = "sS", four[] = "iI";
     column it;
     loan *lent = calloc(1, sizeof *lent);
     if (!lent)
@@ -193,19 +217,15 @@ static int make_column(arrow_array *array, PyObject *columns, Py_ssize_t index, 
         free(lent);
         return -1;
     }
-    Py_ssize_t size = strchr(one, *it.format) ? 1 : strchr(two, *it.format) ? 2
-                      : strchr(four, *it.format) ? 4 : 8;
-    int has_bits = it.bits != Py_None;
-    if (lend(it.numbers, rows * size, it.name, &lent->views[1]) < 0
-        || (has_bits && lend(it.bits, (rows + 7) / 8, it.name, &lent->views[0]) < 0)) {
+    if (lend_column(&it, rows, lent) < 0) {
         give_back_loan(lent);
         return -1;
     }
-    lent->buffers[0] = lent->views[0].buf;
-    lent->buffers[1] = lent->views[1].buf;
-    *array = (arrow_array){.length = rows, .null_count = has_bits ? -1 : 0, .n_buffers = 2,
-                           .buffers = lent->buffers, .release = release_array,
-                           .private_data = lent};
+    for (int k = 0; k < 3; k++)
+        lent->buffers[k] = lent->views[k].buf;
+    *array = (arrow_array){.length = rows, .null_count = it.bits != Py_None ? -1 : 0,
+                           .n_buffers = it.bytes != Py_None ? 3 : 2, .buffers = lent->buffers,
+                           .release = release_array, .private_data = lent};
     return 0;
 }
 

@@ -59,7 +59,8 @@ static size_t cell_stop(const char *text, size_t start, const jadvolni_bad_row *
         if (ends || (parts && !table->width_count))
             break;
     }
-    int is_ended = stop < bad->stop && text[stop] == '\n' && table->has_returns;
+    int may_return = table->has_returns || table->allows_returns;
+    int is_ended = stop < bad->stop && text[stop] == '\n' && may_return;
     return stop - (is_ended && stop > start && text[stop - 1] == '\r');
 }
 

@@ -2,9 +2,10 @@
  * core.h - what the parts of the extension `jadvolni._core` share.
  *
  * The library reads the texts. `types.c` has the types of numbers, `faults.c` the exceptions, `bounds.c` the
- * bounds of a number, `arguments.c` what the calls are given, `columns.c` columns, `tables.c` tables, `rows.c`
- * where their rows end, `cells.c` their cells at fault, `arrow.c` tables for Arrow, and `_core.c` the other
- * calls and the module. `Format` and `Fixed` are Python, and hand their bytes over as `_fields` and `_fixed`.
+ * bounds of a number, `arguments.c` what the calls are given, `columns.c` columns, `tables.c` tables, `apart.c`
+ * whether their arrays have memory of their own, `rows.c` where their rows end, `cells.c` their cells at
+ * fault, `texts.c` their texts, `arrow.c` tables for Arrow, and `_core.c` the other calls and the module.
+ * `Format` and `Fixed` are Python, and hand their bytes over as `_fields` and `_fixed`.
  */
 #ifndef JADVOLNI_PYTHON_CORE_H
 #define JADVOLNI_PYTHON_CORE_H
@@ -164,11 +165,12 @@ int raise_beyond(const core_state *state, jadvolni_result answer, const borrowed
 
 /* The rows of a text from one place to another: _parse_table(text, from, to, is_last, how, columns, at,
  * capacity, bad), where `how` is separator, has_returns, has_quotes, allows_blanks, skips_empty_rows,
- * missing, widths, which are an array of size_t, and is_records. A column is None, or its numbers, bits or
- * None, type and format; rows go there from `at` on. It gives how many rows were read, how many bytes they
- * had, how many bad rows were skipped, and the faults that are told. Where `bad` is -1, the first bad row
- * ends the reading, and is told. Else they are skipped: for 0 none is told, and else all, since reading stops
- * behind so many. */
+ * missing, widths, which are an array of size_t, is_records and allows_returns. A column is None, or its
+ * numbers, bits or None, type or Fixed, format, and None; rows go there from `at` on. Or it is one of
+ * texts: the numbers then are how many bytes each has, and the last is a bytearray, which gets these bytes.
+ * It gives how many rows were read, how many bytes they had, how many bad rows were skipped, and the faults
+ * that are told. Where `bad` is -1, the first bad row ends the reading, and is told. Else they are skipped:
+ * for 0 none is told, and else all, since reading stops behind so many. */
 PyObject *parse_table(PyObject *module, PyObject *const *args, Py_ssize_t count);
 
 PyObject *array_code(PyObject *module, PyObject *given);
@@ -217,11 +219,25 @@ PyObject *row_stops(PyObject *module, PyObject *args);
 PyObject *faults_of(const jadvolni_bad_row *bad, size_t count, const borrowed_text *part, size_t before,
                     const jadvolni_table *table);
 
+/* ---- apart.c ---- */
+
+/* Asks that arrays share no byte with each other, or with two texts. -1 with an exception. */
+int ask_apart(const Py_buffer *rooms, Py_ssize_t count, const borrowed_text *text,
+              const borrowed_text *missing);
+
+/* ---- texts.c ---- */
+
+/* Puts the bytes of texts behind those of a bytearray, and how many each has to its size. Each two of doubled
+ * quotes are one. -1 with an exception. */
+int put_texts(PyObject *bytes, const char *text, const jadvolni_cell_text *cells, size_t count,
+              int64_t *sizes);
+
 /* ---- arrow.c ---- */
 
 /* Capsules for Arrow, of a table or of its one column: _arrow_schema(columns, is_table),
  * _arrow_array(columns, is_table, rows) and _arrow_stream(columns, rows). A column is its name, the code of
- * its numbers, these, and their bits or None. */
+ * its numbers, these, their bits or None, and None. Of one of texts the code is U, or Z where they may be any
+ * bytes, the numbers are where they start and the last one stops, and the last is their bytes. */
 PyObject *arrow_schema_of(PyObject *module, PyObject *args);
 PyObject *arrow_array_of(PyObject *module, PyObject *args);
 PyObject *arrow_stream_of(PyObject *module, PyObject *args);

@@ -3,13 +3,18 @@
  */
 #include "core.h"
 
-#include <stdlib.h>
-
 /* An array of a column of the library, whatever its type. */
 typedef struct array {
     void *numbers;
     size_t capacity;
 } array;
+
+/* A column of texts: where they stand, and where their bytes and sizes go. Without `cells` it is none. */
+typedef struct text_column {
+    jadvolni_cell_text *cells;
+    PyObject *bytes;
+    int64_t *sizes;
+} text_column;
 
 /* The columns of a call, and the buffers that they borrow: for each its numbers and its bits. Rows go there
  * from `at` on. Where that is within a byte of bits, the column has bits of its own in `apart`. */
@@ -17,6 +22,7 @@ typedef struct columns {
     jadvolni_table_column *columns;
     Py_buffer *rooms;
     uint8_t **apart;
+    text_column *texts;
     Py_ssize_t count;
     size_t at;
     size_t capacity;
@@ -32,9 +38,12 @@ static void let_go(columns *all)
         PyBuffer_Release(&all->rooms[k]);
     for (Py_ssize_t k = 0; all->apart && k < all->count; k++)
         PyMem_Free(all->apart[k]);
+    for (Py_ssize_t k = 0; all->texts && k < all->count; k++)
+        PyMem_Free(all->texts[k].cells);
     PyMem_Free(all->columns);
     PyMem_Free(all->rooms);
     PyMem_Free(all->apart);
+    PyMem_Free(all->texts);
 }
 
 /* Whether a buffer is a row of numbers of a type, each at a place for it. */
@@ -80,23 +89,77 @@ static int bits_of(columns *all, Py_ssize_t index)
     return column->present.bytes ? 0 : -1;
 }
 
-/* A column that is read: its numbers, its bits or None, its type and its format. */
-static int column_of(const core_state *state, PyObject *given, columns *all, Py_ssize_t index)
+/* How the cells of a column are written. */
+static void write_notation(const notation *written, jadvolni_table_column *column)
+{
+    if (!written->is_fixed) {
+        column->format = written->format;
+        return;
+    }
+    column->format = written->fixed.integer;
+    column->point = written->fixed.point;
+    column->places = written->fixed.places;
+    column->takes_fewer = written->fixed.takes_fewer;
+}
+
+/* The numbers of a column, to its array. -1 with an exception. */
+static int numbers_of(const core_state *state, PyObject *values, PyObject *kind, PyObject *format,
+                      columns *all, Py_ssize_t index)
 {
     jadvolni_table_column *column = &all->columns[index];
-    Py_buffer *rooms = &all->rooms[2 * index];
-    PyObject *values, *bits, *kind, *format;
-    if (!PyArg_ParseTuple(given, "OOOO", &values, &bits, &kind, &format))
+    Py_buffer *room = &all->rooms[2 * index];
+    notation written;
+    if (notation_of(state, kind, format, &written) < 0)
         return -1;
-    const number_type *type = type_of(kind);
-    if (!type || format_of(state, format, &column->format) < 0
-        || lend(values, type, &rooms[0]) < 0
-        || (bits != Py_None && (lend(bits, &BITS, &rooms[1]) < 0 || bits_of(all, index) < 0)))
+    const number_type *type = written.type;
+    write_notation(&written, column);
+    if (lend(values, type, room) < 0)
         return -1;
-    size_t count = (size_t)rooms[0].len / type->size, at = all->at < count ? all->at : count;
-    array it = {(char *)rooms[0].buf + at * type->size, count - at};
+    size_t count = (size_t)room->len / type->size, at = all->at < count ? all->at : count;
+    array it = {(char *)room->buf + at * type->size, count - at};
     memcpy((char *)column + type->array, &it, sizeof it);
     return 0;
+}
+
+/* The texts of a column, whose bytes a bytearray gets, and whose sizes an array. -1 with an exception. */
+static int texts_of(PyObject *sizes, PyObject *bytes, columns *all, Py_ssize_t index)
+{
+    Py_buffer *room = &all->rooms[2 * index];
+    text_column *texts = &all->texts[index];
+    if (!PyByteArray_Check(bytes)) {
+        raise_type("the bytes of texts", "a bytearray", bytes, "");
+        return -1;
+    }
+    if (lend(sizes, type_of(NULL), room) < 0)
+        return -1;
+    size_t count = (size_t)room->len / sizeof *texts->sizes;
+    if (count < all->at || count - all->at < all->capacity) {
+        PyErr_SetString(PyExc_ValueError, "there has to be room for the sizes of all texts");
+        return -1;
+    }
+    *texts = (text_column){PyMem_Calloc(all->capacity + 1, sizeof *texts->cells), bytes,
+                           (int64_t *)room->buf + all->at};
+    if (!texts->cells) {
+        PyErr_NoMemory();
+        return -1;
+    }
+    all->columns[index].text.texts = texts->cells;
+    all->columns[index].text.capacity = all->capacity + 1;
+    return 0;
+}
+
+/* A column that is read: its numbers, its bits or None, its type or its Fixed, its format, and the bytes of
+ * texts or None. */
+static int column_of(const core_state *state, PyObject *given, columns *all, Py_ssize_t index)
+{
+    PyObject *values, *bits, *kind, *format, *bytes;
+    if (!PyArg_ParseTuple(given, "OOOOO", &values, &bits, &kind, &format, &bytes))
+        return -1;
+    int made = bytes == Py_None ? numbers_of(state, values, kind, format, all, index)
+                                : texts_of(values, bytes, all, index);
+    if (made < 0 || bits == Py_None)
+        return made;
+    return lend(bits, &BITS, &all->rooms[2 * index + 1]) < 0 ? -1 : bits_of(all, index);
 }
 
 /* The columns of a tuple, of which None isn't read. -1 with an exception. */
@@ -108,8 +171,9 @@ static int columns_of(const core_state *state, PyObject *given, columns *all)
     all->columns = PyMem_Calloc((size_t)count + 1, sizeof *all->columns);
     all->rooms = PyMem_Calloc((size_t)count + 1, 2 * sizeof *all->rooms);
     all->apart = PyMem_Calloc((size_t)count + 1, sizeof *all->apart);
+    all->texts = PyMem_Calloc((size_t)count + 1, sizeof *all->texts);
     all->count = count;
-    int made = all->columns && all->rooms && all->apart ? 0 : -1;
+    int made = all->columns && all->rooms && all->apart && all->texts ? 0 : -1;
     if (made < 0)
         PyErr_NoMemory();
     for (Py_ssize_t k = 0; made == 0 && k < count; k++) {
@@ -120,64 +184,19 @@ static int columns_of(const core_state *state, PyObject *given, columns *all)
     return made;
 }
 
-/* Puts the bits of so many rows to where they belong, if they were kept apart. */
-static void join_bits(const columns *all, size_t rows)
+/* Puts the texts of so many rows of a text to where they belong, and their bits, if these were kept apart. -1
+ * with an exception. */
+static int join(const columns *all, const borrowed_text *part, size_t rows)
 {
-    for (Py_ssize_t k = 0; k < all->count; k++)
+    int made = 0;
+    for (Py_ssize_t k = 0; made == 0 && k < all->count; k++) {
+        const text_column *texts = &all->texts[k];
         if (all->apart[k])
             put_bits(all->rooms[2 * k + 1].buf, all->at, all->apart[k], rows);
-}
-
-/* Where the bytes of an array are. */
-typedef struct span {
-    uintptr_t start;
-    uintptr_t stop;
-} span;
-
-static int by_start(const void *one, const void *other)
-{
-    uintptr_t first = ((const span *)one)->start, second = ((const span *)other)->start;
-    return (first > second) - (first < second);
-}
-
-/* Puts the arrays that have bytes to spans, in the order of memory, and answers how many. */
-static size_t spans_of(const columns *all, span *spans)
-{
-    size_t count = 0;
-    for (const Py_buffer *it = all->rooms; it < all->rooms + 2 * all->count; it++)
-        if (it->len)
-            spans[count++] = (span){(uintptr_t)it->buf, (uintptr_t)it->buf + (size_t)it->len};
-    qsort(spans, count, sizeof *spans, by_start);
-    return count;
-}
-
-/* Whether arrays share no byte with each other, or with two texts. */
-static int are_apart(const span *spans, size_t count, const borrowed_text *text,
-                     const borrowed_text *missing)
-{
-    uintptr_t first = (uintptr_t)text->bytes, second = (uintptr_t)missing->bytes;
-    int apart = 1;
-    for (size_t k = 0; k < count; k++) {
-        apart &= k == 0 || spans[k - 1].stop <= spans[k].start;
-        apart &= !text->len || spans[k].stop <= first || first + text->len <= spans[k].start;
-        apart &= !missing->len || spans[k].stop <= second || second + missing->len <= spans[k].start;
+        if (texts->cells)
+            made = put_texts(texts->bytes, part->bytes, texts->cells, rows, texts->sizes);
     }
-    return apart;
-}
-
-/* Asks that the arrays have memory of their own. -1 with an exception. */
-static int ask_apart(const columns *all, const borrowed_text *text, const borrowed_text *missing)
-{
-    span *spans = PyMem_Calloc((size_t)all->count + 1, 2 * sizeof *spans);
-    if (!spans) {
-        PyErr_NoMemory();
-        return -1;
-    }
-    int apart = are_apart(spans, spans_of(all, spans), text, missing);
-    PyMem_Free(spans);
-    if (!apart)
-        PyErr_SetString(PyExc_ValueError, "out has to have memory of its own for each array");
-    return apart ? 0 : -1;
+    return made;
 }
 
 /* What a call is asked: the part of a text from one place to another, how the table is written, and how many
@@ -206,9 +225,9 @@ static int table_of(PyObject *given, jadvolni_table *table, borrowed_text *missi
                     Py_buffer *widths)
 {
     PyObject *separator, *mark, *sizes;
-    int flags[5];
-    if (!PyArg_ParseTuple(given, "OppppOOp", &separator, &flags[0], &flags[1], &flags[2], &flags[3],
-                          &mark, &sizes, &flags[4]))
+    int flags[6];
+    if (!PyArg_ParseTuple(given, "OppppOOpp", &separator, &flags[0], &flags[1], &flags[2], &flags[3],
+                          &mark, &sizes, &flags[4], &flags[5]))
         return -1;
     int byte = separator_of(separator);
     if (byte < 0 || borrow("missing", mark, missing) < 0
@@ -221,6 +240,7 @@ static int table_of(PyObject *given, jadvolni_table *table, borrowed_text *missi
         .allows_blanks = (uint8_t)flags[2],
         .skips_empty_rows = (uint8_t)flags[3],
         .is_records = (uint8_t)flags[4],
+        .allows_returns = (uint8_t)flags[5],
         .missing = missing->bytes,
         .missing_len = missing->len,
         .widths = widths->buf,
@@ -241,7 +261,8 @@ static PyObject *rows_of(const core_state *state, const question *asked, columns
     if (answer.status != JADVOLNI_OK && !is_of_format(answer.status))
         row = jadvolni_row_place(part->bytes, part->len, &asked->table, answer.rows);
     Py_END_ALLOW_THREADS
-    join_bits(all, answer.rows);
+    if (join(all, part, answer.rows) < 0)
+        return NULL;
     if (answer.status == JADVOLNI_OK)
         return Py_BuildValue("(nnn())", (Py_ssize_t)answer.rows, (Py_ssize_t)answer.place, (Py_ssize_t)0);
     if (is_of_format(answer.status)) {
@@ -273,12 +294,12 @@ static PyObject *right_rows_of(const core_state *state, const question *asked, c
         answer.bad_rows = room;
     }
     PyObject *result = NULL;
-    join_bits(all, answer.rows);
-    if (answer.status == JADVOLNI_OK)
+    int made = join(all, part, answer.rows);
+    if (made == 0 && answer.status == JADVOLNI_OK)
         result = Py_BuildValue(
             "(nnnN)", (Py_ssize_t)answer.rows, (Py_ssize_t)answer.place, (Py_ssize_t)answer.bad_rows,
             faults_of(bad, room ? answer.bad_rows : 0, part, asked->from, &asked->table));
-    else
+    else if (made == 0)
         raise_format(state, answer.status);
     PyMem_Free(bad);
     return result;
@@ -293,7 +314,8 @@ static PyObject *answer_of(const core_state *state, question *asked, PyObject *c
     asked->part = part_of(&asked->text, asked->from, asked->to);
     if (all->capacity > asked->part.len) /* (a row has a byte, also a bad one) */
         all->capacity = asked->part.len;
-    if (columns_of(state, args[5], all) < 0 || ask_apart(all, &asked->part, &asked->missing) < 0)
+    if (columns_of(state, args[5], all) < 0
+        || ask_apart(all->rooms, 2 * all->count, &asked->part, &asked->missing) < 0)
         return NULL;
     return asked->bad < 0 ? rows_of(state, asked, all) : right_rows_of(state, asked, all);
 }
@@ -317,13 +339,15 @@ PyObject *parse_table(PyObject *module, PyObject *const *args, Py_ssize_t count)
     return rows;
 }
 
-/* The code of the arrays of a type. */
+/* The code of the arrays of a type, or of that of a Fixed. */
 PyObject *array_code(PyObject *module, PyObject *given)
 {
-    (void)module;
-    const number_type *type = type_of(given);
-    if (type && !type->array_code)
+    notation written;
+    if (notation_of(PyModule_GetState(module), given, NULL, &written) < 0)
+        return NULL;
+    const number_type *type = written.type;
+    if (!type->array_code)
         PyErr_Format(PyExc_ValueError, "type has to have 64 bits or fewer in a column, and not %s",
                      type->name);
-    return type && type->array_code ? PyUnicode_FromString(type->array_code) : NULL;
+    return type->array_code ? PyUnicode_FromString(type->array_code) : NULL;
 }

@@ -59,11 +59,24 @@ def release(it):
     assert not it.release
 
 
+def texts(schema, array):
+    """The texts of an array, also those that are missing: str of UTF-8, or bytes."""
+    places = list((c_int64 * (array.length + 1)).from_address(array.buffers[1]))
+    assert places[0] == 0 and places == sorted(places)
+    found = [ctypes.string_at((array.buffers[2] or 0) + start, stop - start)
+             for start, stop in zip(places, places[1:])]
+    return [it.decode() for it in found] if schema.format == b"U" else found
+
+
 def column(schema, array):
-    """The numbers of an array, with None for each that is missing."""
-    assert (array.n_children, array.n_buffers, array.offset) == (0, 2, 0)
-    kind = TYPES[schema.format.decode()]
-    numbers = (kind * array.length).from_address(array.buffers[1]) if array.length else []
+    """The numbers or texts of an array, with None for each that is missing."""
+    is_text = schema.format in (b"U", b"Z")
+    assert (array.n_children, array.n_buffers, array.offset) == (0, 2 + is_text, 0)
+    if is_text:
+        numbers = texts(schema, array)
+    else:
+        kind = TYPES[schema.format.decode()]
+        numbers = (kind * array.length).from_address(array.buffers[1]) if array.length else []
     if not array.buffers[0]:
         assert array.null_count == 0
         return list(numbers)

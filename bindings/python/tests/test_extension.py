@@ -153,6 +153,10 @@ class Types(unittest.TestCase):
                 day += jadvolni.parse_front("1.5", jadvolni.Fixed(places=1, group=" "))[0]
             except jadvolni.ParseError as error:
                 print(error.place + 1, error.row + 1, error.line + 1, error.text.decode())
+            amount = jadvolni.Fixed("i64", places=2, point=",")
+            bank = {"when": jadvolni.Text(), "day": "u8", "what": None, "cents": amount,
+                    "note": jadvolni.Column(jadvolni.Text(None), may_miss=True)}
+            day += len(jadvolni.read_table("bank.csv", bank, ";", allows_returns=True)["note"])
             bad: list[jadvolni.ParseError] = []
             table = jadvolni.parse_table("1", {"a": "u8"}, on_error="skip", errors=bad)
             for table in jadvolni.iter_table(gzip.open("days.gz", "rb"), {"a": "u8"},

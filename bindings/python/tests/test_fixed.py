@@ -8,7 +8,7 @@ import sys
 import unittest
 
 from jadvolni import (Fixed, Format, FormatError, ParseError, formats, parse, parse_column,
-                      parse_front, parse_partial, parse_table)
+                      parse_front, parse_partial)
 
 CENTS = Fixed("i64", places=2)
 FEWER = Fixed("i64", places=2, takes_fewer=True)
@@ -199,9 +199,8 @@ class FixedPoint(unittest.TestCase):
         self.assertEqual(parse("1.00", CENTS, None), 100)
         with self.assertRaisesRegex(TypeError, r"^parse_partial\(\) reads no Fixed: take parse_"):
             parse_partial("1.00", CENTS)
-        for call in parse_column, lambda text, fixed: parse_table(text, {"a": fixed}):
-            with self.assertRaisesRegex(TypeError, "^type has to be a str such as 'u64', and not"):
-                call("1.00", CENTS)
+        with self.assertRaisesRegex(TypeError, "^type has to be a str such as 'u64', and not"):
+            parse_column("1.00", CENTS)
 
     def test_what_looks_like_one(self):
         class Alike:

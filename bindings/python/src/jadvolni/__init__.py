@@ -40,6 +40,7 @@ from ._blocks import iter_column
 from ._numpy import numpy_column
 from ._reader import Column
 from ._table import Sparse, Table
+from ._texts import Text, TextColumn
 from ._tables import iter_table, parse_table, read_table
 
 __all__ = [
@@ -50,6 +51,8 @@ __all__ = [
     "ParseError",
     "Sparse",
     "Table",
+    "Text",
+    "TextColumn",
     "__version__",
     "formats",
     "iter_column",

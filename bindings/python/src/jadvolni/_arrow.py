@@ -7,18 +7,22 @@ from typing import Any, Mapping, Optional
 from ._core import _arrow_array, _arrow_schema, _arrow_stream
 
 
-def _column(name: str, values: Any) -> tuple[str, str, Any, Any]:
-    """What the capsules are made of: a column's name, code, numbers, and bits or None."""
+def _column(name: str, values: Any) -> tuple[str, str, Any, Any, Any]:
+    """What the capsules are made of: a column's name, code, numbers, bits or None, and None. Of
+    texts the numbers are where they start and the last one stops, and the last are their bytes."""
     if not isinstance(name, str):
         raise TypeError(f"Arrow wants names that are str, and not {type(name).__name__}")
     if "\0" in name or name.encode("utf-8", "replace").decode() != name:
         raise ValueError(f"Arrow wants names of UTF-8 without NUL, and not {name!r}")
+    if hasattr(values, "for_arrow"):
+        code, offsets, bits, data = values.for_arrow()
+        return name, code, offsets, bits, data
     numbers, bits = values if isinstance(values, tuple) else (values, None)
     try:
         with memoryview(numbers) as view:
             code = {"l": "q", "L": "Q"}.get(view.format, view.format)
             if view.ndim == 1 and view.c_contiguous:
-                return name, code, numbers, bits
+                return name, code, numbers, bits, None
     except TypeError:
         pass
     kind = type(numbers).__name__
@@ -35,7 +39,7 @@ class Arrow:
     def __init__(self, columns: Mapping[str, Any], is_table: bool = True) -> None:
         self._columns = tuple(_column(name, values) for name, values in columns.items())
         self._is_table = is_table
-        sizes = {len(numbers) for _, _, numbers, _ in self._columns}
+        sizes = {len(numbers) - (data is not None) for _, _, numbers, _, data in self._columns}
         if len(sizes) > 1:
             raise ValueError(f"the columns have to be of one length, and not of {sorted(sizes)}")
         self._rows = sizes.pop() if sizes else 0

@@ -52,8 +52,9 @@ def _name(cell: bytes, how: How) -> str:
 
 def names_of(line: bytes, how: How) -> list[str]:
     """The names of a header."""
+    is_ended = line.endswith(b"\n")
     line = line.removeprefix(_MARK).removesuffix(b"\n")
-    if how.has_returns:
+    if how.has_returns or (how.allows_returns and is_ended):
         line = line.removesuffix(b"\r")
     separator = byte_of(b"," if how.separator is None else how.separator)
     return [_name(cell, how) for cell in _cells(line, separator, bool(how.has_quotes))]

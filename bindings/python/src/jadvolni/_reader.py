@@ -11,19 +11,26 @@ from ._core import _array_code, _parse_table, _row_count, _text_size
 from ._faults import AtFault, Fault, Part, error_of
 from ._format import Format, _integer
 from ._header import ask_names
+from . import _texts
 from ._table import Sparse, Table
 
 if TYPE_CHECKING:
     from ._core import NumberType, ParseError, Text
+    from ._fixed import Fixed
 
-    # What is read of a column: nothing, numbers of a type, or what a Column says.
-    Columns = Mapping[str, Optional[Union[NumberType, "Column"]]]
+    # What is read of a column: None, a type, a Fixed, a Text or a Column. Checkers of types take a
+    # dict that has several of these for one of any objects.
+    Columns = Mapping[str, Any]
 
 
 class Column(NamedTuple):
-    """What is read of a column: numbers of a type, under a format, of which some may be missing."""
+    """What is read of a column: numbers of a type, under a format, of which some may be missing.
 
-    type: NumberType
+    A Fixed in the place of the type reads fixed-point numbers, in units of their last place, and a
+    Text reads texts. Neither goes with a format.
+    """
+
+    type: Union[NumberType, Fixed, _texts.Text]
     format: Optional[Format] = None
     may_miss: bool = False
 
@@ -39,6 +46,7 @@ class How(NamedTuple):
     missing: Text = b""
     widths: Optional[Iterable[int]] = None
     is_records: bool = False
+    allows_returns: bool = False
 
 
 # Where bad rows are told, so many bytes are read at once, and so many are told at most.
@@ -66,8 +74,20 @@ def _sizes(widths: Iterable[int], count: int) -> array[int]:
 
 def pair_of(values: Any) -> tuple[Any, Any]:
     """The numbers of a column, and its bits or None."""
-    numbers, bits = values if isinstance(values, tuple) else (values, None)
+    numbers, bits = values[:2] if isinstance(values, tuple) else (values, None)
     return numbers, bits
+
+
+def _data_of(values: Any) -> Optional[bytearray]:
+    """Where the bytes of a column of texts go, and None for one of numbers."""
+    return values.data if isinstance(values, _texts.Room) else None
+
+
+def with_pair(values: Any, numbers: Any, bits: Any) -> Any:
+    """A column as another one is, with these numbers, and bits or None. Texts keep their bytes."""
+    if isinstance(values, _texts.Room):
+        return values._replace(sizes=numbers, bits=bits)
+    return numbers if bits is None else Sparse(numbers, bits)
 
 
 class Reader:
@@ -79,6 +99,9 @@ class Reader:
         ask_type("columns", columns, Mapping, "a dict")
         self.read = {name: it if isinstance(it, Column) else Column(it)
                      for name, it in columns.items() if it is not None}
+        for column in self.read.values():
+            if isinstance(column.type, _texts.Text) and column.format is not None:
+                raise TypeError("format has to be None where the type is a Text")
         if names is not None:
             ask_names(columns, names, how)
         # The cells of a row, each with its name; a name that isn't read may come twice.
@@ -89,7 +112,7 @@ class Reader:
         if how.is_records and not sizes:
             raise ValueError("widths have to be there where is_records is true")
         separator = b"," if how.separator is None else how.separator
-        self.how = (separator, *how[1:6], sizes, how.is_records)
+        self.how = (separator, *how[1:6], sizes, how.is_records, how.allows_returns)
         self.has_quotes = bool(how.has_quotes)
         self.record = min(max(sum(sizes), 1), sys.maxsize) if how.is_records else 0
         self.at_fault = at
@@ -105,12 +128,16 @@ class Reader:
 
     def room(self, rows: int) -> Table:
         """Arrays for so many rows, whose numbers may be any."""
-        return Table({name: self._room(column, rows) for name, column in self.read.items()})
+        return Table({name: self.room_of(column, rows) for name, column in self.read.items()})
 
-    def _room(self, column: Column, rows: int) -> Any:
+    def room_of(self, column: Column, rows: int) -> Any:
         """What a column of so many rows is read into."""
-        numbers = new_array(self.numpy, _array_code(column.type), rows)
-        return Sparse(numbers, self.bits(rows)) if column.may_miss else numbers
+        kind, bits = column.type, self.bits(rows) if column.may_miss else None
+        if isinstance(kind, _texts.Text):
+            sizes = new_array(self.numpy, "q", rows)
+            return _texts.Room(sizes, bits, bytearray(), kind.encoding)
+        numbers = new_array(self.numpy, _array_code(kind), rows)
+        return numbers if bits is None else Sparse(numbers, bits)
 
     def bits(self, rows: int) -> Any:
         """The bits of so many rows, which are 0."""
@@ -134,7 +161,7 @@ class Reader:
         The first bad row ends the reading, and is told. Or they are skipped: none is told for 0,
         and else so many at most, and then the next call goes on behind them.
         """
-        read = {name: (*pair_of(arrays[name]), it.type, it.format)
+        read = {name: (*pair_of(arrays[name]), it.type, it.format, _data_of(arrays[name]))
                 for name, it in self.read.items()}
         columns = tuple(map(read.get, self.cells))
         if told <= 0:

@@ -8,8 +8,9 @@ from typing import TYPE_CHECKING, Any, Optional
 from ._arrays import cut, grown
 from ._core import _move_bits, _text_size
 from ._faults import Fault, Part
-from ._reader import Reader, pair_of
-from ._table import Sparse, Table
+from ._reader import Reader, pair_of, with_pair
+from ._table import Table
+from ._texts import Room, TextColumn, offsets_of
 
 if TYPE_CHECKING:
     from ._core import Text
@@ -125,10 +126,10 @@ class Rows:
         """What a column was read into, with the room that there is now."""
         numbers, bits = pair_of(values)
         more = grown(self.reader.numpy, numbers, self.room, self.count)
-        if bits is None:
-            return more
-        size, kept = (self.room + 7) // 8, (self.count + 7) // 8
-        return Sparse(more, grown(self.reader.numpy, bits, size, kept))
+        if bits is not None:
+            size, kept = (self.room + 7) // 8, (self.count + 7) // 8
+            bits = grown(self.reader.numpy, bits, size, kept)
+        return with_pair(values, more, bits)
 
     def append(self, other: Rows, behind: int) -> None:
         """Puts the rows of another behind these. Behind them stand about so many bytes more."""
@@ -140,6 +141,8 @@ class Rows:
                 places[self.count:self.count + other.count] = rows[:other.count]
             if bits is not None:
                 _move_bits(to_bits, self.count, bits, other.count)
+            if isinstance(values, Room):
+                self.arrays[name].data.extend(values.data)
         self.count, self.bad = self.count + other.count, self.bad + other.bad
 
     def table(self) -> Table:
@@ -162,13 +165,17 @@ class Rows:
 
 def _view(values: Any, count: int) -> Any:
     """What a caller's column was read into, up to so many rows."""
+    if isinstance(values, Room):
+        return _front(values, count)
     if isinstance(values, tuple):
-        return Sparse(_view(values[0], count), _view(values[1], (count + 7) // 8))
+        return with_pair(values, _view(values[0], count), _view(values[1], (count + 7) // 8))
     return values if len(values) == count else values[:count]
 
 
 def _front(values: Any, count: int) -> Any:
     """What a column was read into, cut behind so many rows."""
-    if isinstance(values, tuple):
-        return Sparse(cut(values[0], count), cut(values[1], (count + 7) // 8))
-    return cut(values, count)
+    numbers, bits = pair_of(values)
+    numbers, bits = cut(numbers, count), None if bits is None else cut(bits, (count + 7) // 8)
+    if isinstance(values, Room):
+        return TextColumn(values.data, offsets_of(numbers), bits, values.encoding)
+    return with_pair(values, numbers, bits)

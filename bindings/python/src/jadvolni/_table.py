@@ -5,6 +5,7 @@ from __future__ import annotations
 from typing import TYPE_CHECKING, Any, NamedTuple, Optional
 
 from ._arrow import Arrow, ArrowTable
+from ._texts import TextColumn
 
 if TYPE_CHECKING:
     import numpy
@@ -58,7 +59,8 @@ class Sparse(NamedTuple):
 
 class Table(dict[str, Any]):
     """The columns that were read, by their names: each an array, NumPy's where it is installed and
-    else of the module array; or a Sparse of them where numbers may be missing.
+    else of the module array; or a Sparse of them where numbers may be missing. One of texts is a
+    TextColumn.
 
     None of its calls copies a number.
     """
@@ -67,18 +69,21 @@ class Table(dict[str, Any]):
     bad_rows = 0
 
     def to_numpy(self) -> dict[str, Any]:
-        """Each column as an array of NumPy, and as a masked one where numbers may be missing."""
+        """Each column as an array of NumPy, and as a masked one where numbers may be missing. Texts
+        are objects."""
         import numpy
 
-        return {name: values.to_numpy() if isinstance(values, Sparse) else numpy.asarray(values)
-                for name, values in self.items()}
+        return {name: values.to_numpy() if isinstance(values, (Sparse, TextColumn))
+                else numpy.asarray(values) for name, values in self.items()}
 
     def to_pandas(self) -> pandas.DataFrame:
-        """A DataFrame of pandas. Where numbers may be missing, a column is one of Int64 or so."""
+        """A DataFrame of pandas. Where numbers may be missing, a column is one of Int64 or so.
+        Texts are objects."""
         import numpy
         import pandas
 
         columns = {name: _extension_array(values) if isinstance(values, Sparse)
+                   else values.to_numpy() if isinstance(values, TextColumn)
                    else numpy.asarray(values) for name, values in self.items()}
         return pandas.DataFrame(columns, copy=False)
 

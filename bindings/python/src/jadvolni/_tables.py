@@ -18,6 +18,7 @@ from ._header import ask_header, read_header
 from ._reader import How, Reader, ask_type
 from ._rows import Rows
 from ._table import Table
+from ._texts import Text as TextKind
 from ._threads import bytes_of, parse_in_threads, raise_changed, rows_in_threads
 
 if TYPE_CHECKING:
@@ -33,9 +34,10 @@ def _writable_size(values: Any) -> int:
 
 
 def _room_of(reader: Reader, out: Mapping[str, Any], rows: int) -> Table:
-    """The caller's arrays, which have to be for so many rows."""
+    """The caller's arrays, which have to be for so many rows, and new ones for texts."""
     ask_type("out", out, Mapping, "a dict or None")
-    for name, column in reader.read.items():
+    numbers = {name: it for name, it in reader.read.items() if not isinstance(it.type, TextKind)}
+    for name, column in numbers.items():
         given: Any = out.get(name)
         is_pair = isinstance(given, tuple) and len(given) == 2
         sizes = [_writable_size(it) for it in (given if is_pair else (given,))]
@@ -44,7 +46,8 @@ def _room_of(reader: Reader, out: Mapping[str, Any], rows: int) -> Table:
             raise ValueError(f"out has to have {wanted} to write to for the column {name!r}")
         if any(size < needed for size, needed in zip(sizes, (rows, (rows + 7) // 8))):
             raise ValueError(f"out has to have room for the {rows} rows of the text")
-    return Table({name: out[name] for name in reader.read})
+    return Table({name: out[name] if name in numbers else reader.room_of(column, rows)
+                  for name, column in reader.read.items()})
 
 
 def _parse(
@@ -105,28 +108,30 @@ def parse_table(
     out: Optional[Mapping[str, Any]] = None,
     threads: int = 1,
     *,
+    allows_returns: bool = False,
     header: bool = False,
     on_error: OnError = "raise",
     errors: Errors = None,
 ) -> Table:
     """The rows of a text, each column as an array.
 
-    `columns` names the cells of a row in their order, each with its type, a Column, or None where
-    it isn't read. A row has one cell more than separators, by default commas. The arrays are
-    NumPy's where it is installed, and else of the module array; or those of `out`, up to the last
-    row.
+    `columns` names the cells of a row in their order, each with its type, a Fixed, a Text, a
+    Column, or None where it isn't read. A row has one cell more than separators, by default commas.
+    The arrays are NumPy's where it is installed, and else of the module array; or those of `out`,
+    up to the last row. Texts are a TextColumn, and have no place in `out`.
 
     header: the first line has the names of the columns. Those of `columns` choose among them, in
     any order, and no other is read; ValueError tells of one that is missing or stands twice. A byte
     order mark may stand before the header.
 
-    has_returns: a return stands before each line feed. has_quotes: a cell may stand within '"'.
-    allows_blanks: spaces and tabs may stand around a number or `missing`. skips_empty_rows: a row
-    without a byte is none. missing: what stands for a missing number where a Column has may_miss,
-    which then is a Sparse: by default an empty cell. widths: how many bytes each column's cells
-    have, in the place of separators. is_records: rows have as many bytes as the widths together,
-    at least one, and no line feed behind them. threads: how many read the text, in parts; at a
-    fault `out` then may hold anything.
+    has_returns: a return stands before each line feed. allows_returns: one may stand there, so that
+    each row may end either way; any other is a byte of its cell. has_quotes: a cell may stand
+    within '"'. allows_blanks: spaces and tabs may stand around a number or `missing`.
+    skips_empty_rows: a row without a byte is none. missing: what stands for a missing number where
+    a Column has may_miss, which then is a Sparse, or for a missing text: by default an empty cell.
+    widths: how many bytes each column's cells have, in the place of separators. is_records: rows
+    have as many bytes as the widths together, at least one, and no line feed behind them. threads:
+    how many read the text, in parts; at a fault `out` then may hold anything.
 
     ParseError has the first wrong cell in reading order: its `row`, `line`, `column` and `name`,
     its first bytes as `text`, the `place` of the wrong byte, and its row from `row_start` to
@@ -139,7 +144,7 @@ def parse_table(
     in the order of the rows. What it raises ends the reading.
     """
     how = How(separator, has_returns, has_quotes, allows_blanks, skips_empty_rows, missing, widths,
-              is_records)
+              is_records, allows_returns)
     return _parse_text(text, columns, how, at_fault(on_error, errors), out, threads, header)
 
 
@@ -169,6 +174,7 @@ def read_table(
     size: int = 1 << 20,
     progress: Optional[Callable[[int], object]] = None,
     mmap: bool = False,
+    allows_returns: bool = False,
     header: bool = False,
     on_error: OnError = "raise",
     errors: Errors = None,
@@ -181,7 +187,7 @@ def read_table(
     program may write to the file: one that is cut short meanwhile ends this process by a signal.
     """
     how = How(separator, has_returns, has_quotes, allows_blanks, skips_empty_rows, missing, widths,
-              is_records)
+              is_records, allows_returns)
     if not isinstance(file, (str, os.PathLike)):
         if mmap:
             raise TypeError("file has to be a path where mmap is true")
@@ -286,6 +292,7 @@ def iter_table(
     progress: Optional[Callable[[int], object]] = None,
     *,
     threads: int = 1,
+    allows_returns: bool = False,
     header: bool = False,
     on_error: OnError = "raise",
     errors: Errors = None,
@@ -301,7 +308,7 @@ def iter_table(
     rows, size = _one_or_more("rows", rows), _one_or_more("size", size)
     threads, row = _one_or_more("threads", threads), 0
     how = How(separator, has_returns, has_quotes, allows_blanks, skips_empty_rows, missing, widths,
-              is_records)
+              is_records, allows_returns)
     told = progress if threads == 1 else None
     at = at_fault(on_error, errors, getattr(file, "name", None))
     reader, blocks, start = _opened(file, columns, how, at, size, size, told, header)

@@ -11,9 +11,10 @@ from typing import TYPE_CHECKING, Any, Iterable, Iterator, NoReturn
 from ._core import _move_bits, _row_count, _row_stops
 from ._faults import Fault, Part
 from ._files import Texts, read_texts
-from ._reader import Reader, pair_of
+from ._reader import Reader, pair_of, with_pair
 from ._rows import Rows
-from ._table import Sparse, Table
+from ._table import Table
+from ._texts import Room
 
 if TYPE_CHECKING:
     from ._core import Text
@@ -44,7 +45,10 @@ def _room_behind(
     room = {}
     for name, column in reader.read.items():
         numbers = held.enter_context(memoryview(pair_of(arrays[name])[0])[row:row + rows])
-        room[name] = Sparse(numbers, reader.bits(rows)) if column.may_miss else numbers
+        bits = reader.bits(rows) if column.may_miss else None
+        room[name] = with_pair(arrays[name], numbers, bits)
+        if isinstance(room[name], Room):
+            room[name] = room[name]._replace(data=bytearray())
     return room
 
 
@@ -58,6 +62,8 @@ def _join(values: Any, parts: list[Any], lines: list[int], counts: list[int]) ->
                 places[row:row + count] = places[line:line + count]
             if bits is not None:
                 _move_bits(bits, row, part.bits, count)
+            if isinstance(values, Room):
+                values.data.extend(part.data)
             line, row = line + room, row + count
 
 

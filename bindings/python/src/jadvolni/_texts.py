@@ -1,0 +1,156 @@
+"""Columns of texts: how they are read, and what they are read into."""
+
+from __future__ import annotations
+
+import codecs
+import dataclasses
+from array import array
+from itertools import accumulate
+from typing import TYPE_CHECKING, Any, Iterator, NamedTuple, Optional, Sequence, Union, overload
+
+from ._arrow import Arrow
+
+if TYPE_CHECKING:
+    from typing import SupportsIndex
+
+    import numpy
+    import pandas
+
+    # What a row of a column of texts has.
+    Cell = Union[str, bytes, None]
+
+
+@dataclasses.dataclass(frozen=True)
+class Text:
+    """What is read of a column whose cells are texts, of any bytes. Calls on tables take it in the
+    place of a type, and give a TextColumn.
+
+    A text is what stands within the quotes of a cell that has them, where a table has quotes: each
+    doubled quote there is told as one. Blanks are part of it, also where a table allows them. In a
+    Column with may_miss the text that is byte for byte the table's `missing` is None.
+
+    encoding: How its bytes are read, as "cp1252". With None they are told as bytes.
+
+    LookupError tells of an encoding that Python hasn't.
+    """
+
+    encoding: Optional[str] = "utf-8"
+
+    def __post_init__(self) -> None:
+        if self.encoding is None:
+            return
+        if not isinstance(self.encoding, str):
+            kind = type(self.encoding).__name__
+            raise TypeError(f"encoding has to be a str or None, and not {kind}")
+        "".encode(self.encoding)  # (which also refuses those that aren't of texts, as "hex")
+
+
+class Room(NamedTuple):
+    """What a column of texts is read into: how many bytes each has, bits or None, and the bytes."""
+
+    sizes: Any
+    bits: Any
+    data: bytearray
+    encoding: Optional[str]
+
+
+class TextColumn(Sequence["Cell"]):
+    """The texts of a column, a sequence of str, with None for each that is missing.
+
+    They are decoded as they are asked for: UnicodeDecodeError then tells of bytes that the encoding
+    hasn't. Where it is None, they are bytes.
+
+    data: The bytes of all texts, behind each other. offsets: Where each one starts in them, and
+    where the last one stops. bits: As those of a Sparse, or None where no text may be missing.
+    These are laid out as Arrow has them. A part by `column[1:3]` is a list.
+    """
+
+    def __init__(
+        self, data: bytearray, offsets: Any, bits: Any = None, encoding: Optional[str] = "utf-8"
+    ) -> None:
+        self.data, self.offsets, self.bits, self.encoding = data, offsets, bits, encoding
+
+    def __len__(self) -> int:
+        return len(self.offsets) - 1
+
+    @overload
+    def __getitem__(self, row: SupportsIndex) -> Cell: ...
+
+    @overload
+    def __getitem__(self, row: slice) -> list[Cell]: ...
+
+    def __getitem__(self, row: Union[SupportsIndex, slice]) -> Union[Cell, list[Cell]]:
+        rows = range(len(self))
+        if isinstance(row, slice):
+            return [self._cell(it, *self.offsets[it:it + 2]) for it in rows[row]]
+        try:
+            chosen = rows[row]
+        except IndexError:
+            raise IndexError(f"the column has {len(self)} rows, and none of this number") from None
+        return self._cell(chosen, *self.offsets[chosen:chosen + 2])
+
+    def _cell(self, row: int, start: int, stop: int) -> Cell:
+        """The text of a row, whose bytes stand from one place to another."""
+        if self.bits is not None and not self.bits[row >> 3] >> (row & 7) & 1:
+            return None
+        text = self.data[start:stop]
+        return bytes(text) if self.encoding is None else text.decode(self.encoding)
+
+    def __iter__(self) -> Iterator[Cell]:
+        places = self.offsets.tolist()
+        return map(self._cell, range(len(self)), places, places[1:])
+
+    def __repr__(self) -> str:
+        return f"<{type(self).__name__} of {len(self)} texts>"
+
+    def tolist(self) -> list[Cell]:
+        """The texts as a list."""
+        return list(self)
+
+    def to_numpy(self) -> numpy.ndarray[Any, Any]:
+        """The texts as an array of NumPy, of objects."""
+        import numpy
+
+        found = numpy.empty(len(self), object)
+        found[:] = self.tolist()
+        return found
+
+    def to_pandas(self) -> pandas.Series[Any]:
+        """The texts as a Series of pandas, of objects."""
+        import pandas
+
+        return pandas.Series(self.to_numpy(), dtype=object)
+
+    def for_arrow(self) -> tuple[str, Any, Any, bytearray]:
+        """What Arrow has: its code of the texts, which are UTF-8 or any bytes, and their arrays.
+
+        No text is copied but where it has another encoding. All are decoded, so that none is handed
+        out that isn't what its column says.
+        """
+        if self.encoding is None:
+            return "Z", self.offsets, self.bits, self.data
+        is_utf8 = codecs.lookup(self.encoding).name == "utf-8"
+        if is_utf8 and self.data.isascii():
+            return "U", self.offsets, self.bits, self.data
+        texts = [str(it or "").encode() for it in self]
+        if is_utf8:
+            return "U", self.offsets, self.bits, self.data
+        sizes = array("q", map(len, texts))
+        return "U", offsets_of(sizes), self.bits, bytearray(b"".join(texts))
+
+    def __arrow_c_schema__(self) -> object:
+        return Arrow({"": self}, False).__arrow_c_schema__()
+
+    def __arrow_c_array__(self, requested_schema: Optional[object] = None) -> tuple[object, object]:
+        return Arrow({"": self}, False).__arrow_c_array__()
+
+
+def offsets_of(sizes: Any) -> Any:
+    """Where texts of these sizes start behind each other, and where the last one stops."""
+    if isinstance(sizes, array):
+        return array("q", accumulate(sizes, initial=0))
+    import numpy
+
+    offsets = numpy.zeros(len(sizes) + 1, "q")
+    numpy.cumsum(sizes, out=offsets[1:])
+    return offsets
