@@ -215,7 +215,8 @@ impl ArrayFields<'_> {
     pub(crate) fn put_at_once(&mut self, row: usize, ahead: &[u8], size: usize) -> bool
         requires room { IfSome (array_in self.old) (λ array. row < length array.numbers) }
         requires within { size ≤ length ahead.now }
-        ensures fault { IsTrue result → (start : ℕ) → array_fault (λ type. field_answer standard type
+        ensures fault { IsTrue result → (start : ℕ)
+            → array_fault (λ type. field_answer standard type
             (record { start = start; text = take size ahead.now })) (array_in self.old) ≡ None }
         ensures numbers { IsTrue result → (start : ℕ) → array_in self.new
             ≡ option_map (put_answer row (λ type. field_answer standard type
@@ -248,7 +249,8 @@ impl ArrayFields<'_> {
         requires numbers { number_type self.old ≡ Some numbers }
         requires room { IfSome (array_in self.old) (λ array. row < length array.numbers) }
         requires small { number < 2 ^ 63 }
-        ensures fits { IsTrue result → IsNumber (type_named numbers) (with_sign is_negative number) }
+        ensures fits { IsTrue result
+            → IsNumber (type_named numbers) (with_sign is_negative number) }
         ensures minus { IsTrue result → IsTrue is_negative → (type_named numbers).is_signed ≡ true }
         ensures numbers { IsTrue result → array_in self.new
             ≡ option_map (put_number row (with_sign is_negative number)) (array_in self.old) }

@@ -248,7 +248,8 @@ impl ColumnFields<'_> {
 
     // What is wrong with a column of numbers that has an array of some room, if so many rows are asked for.
     fn number_status(&self, room: usize, rows: usize) -> u32
-        requires room { option_map (λ array. length array.numbers) (array_in self.now.arrays) ≡ Some room }
+        requires room { option_map (λ array. length array.numbers) (array_in self.now.arrays)
+            ≡ Some room }
         ensures { result ≡ column_status rows self.now }
     {
         if room < rows {

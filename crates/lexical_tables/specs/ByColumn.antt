@@ -140,7 +140,8 @@ AreUsable room (target ∷ targets) = IsUsable room target × AreUsable room tar
 -- ---- one cell of a row
 
 -- what the cell of a column stands for
-abbrev pub answer_at : Dialect → List (Option Kind) → ℕ → FieldView → Result (Option Value) CellFault
+abbrev pub answer_at : Dialect → List (Option Kind) → ℕ → FieldView
+    → Result (Option Value) CellFault
 answer_at dialect [] column cell = answer_as dialect None cell
 answer_at dialect (kind ∷ kinds) zero cell = answer_as dialect kind cell
 answer_at dialect (kind ∷ kinds) (suc column) cell = answer_at dialect kinds column cell

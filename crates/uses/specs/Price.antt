@@ -24,7 +24,8 @@ amounts = record {
 -- the amount that a text begins with, and what stands behind it
 abbrev pub price_in : List ℕ → Result (ℤ × List ℕ) Error
 price_in text =
-    view_of (λ found. (found.0, drop found.1 text)) (partial_fixed amounts (integer_type 64 true) text)
+    view_of (λ found. (found.0, drop found.1 text))
+    (partial_fixed amounts (integer_type 64 true) text)
 
 -- a price as the program has it
 abbrev pub view_of_price : Price → ℤ × List ℕ
