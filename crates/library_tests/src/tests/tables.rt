@@ -8,8 +8,8 @@ use crate::tests::answers;
 use lexical_parse_integer::format::STANDARD;
 use lexical_parse_integer::{Error, Options, options};
 use lexical_tables::{
-    CellFault, CellText, Dialect, Layout, Numbers, Table, TableColumn, TableError, Target, after_lines,
-    fold_quotes, put_cell, put_standard_cell, read_columns, read_columns_part,
+    CellFault, CellText, Dialect, Layout, Numbers, Table, TableColumn, TableError, Target,
+    after_lines, fold_quotes, put_cell, put_standard_cell, read_columns, read_columns_part,
 };
 use std::alloc::{AllocError, Global};
 use std::slice;
