@@ -300,8 +300,10 @@ impl TableColumn for ColumnFields<'_> {
     }
 
     fn put_text(&mut self, row: usize, text: CellText) {
-        self.put_place(row, text_fields(text));
-        self.put_presence(row, true);
+        if self.is_text() {
+            self.put_place(row, text_fields(text));
+            self.put_presence(row, true);
+        }
     }
 
     fn read(

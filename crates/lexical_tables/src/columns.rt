@@ -59,7 +59,7 @@ impl TableColumn for Column<'_> {
     fn put_text(&mut self, row: usize, text: CellText) {
         match self {
             Column::Texts(target) => target.put_text(row, text),
-            Column::Unread | Column::Integers(_) | Column::FixedPoints(_) => unreachable!(),
+            Column::Unread | Column::Integers(_) | Column::FixedPoints(_) => {}
         }
     }
 

@@ -135,12 +135,13 @@ pub trait TableColumn {
         requires usable { IsUsable (row + 1) (target self.old) }
         ensures { target self.new ≡ option_map (put_value row None) (target self.old) };
 
-    /// Puts where a text stands into a row's place, and sets the row's bit. It is for a column of texts.
+    /// Puts where a text stands into a row's place, and sets the row's bit, in a column of texts. Another column stays as it
+    /// is.
     fn put_text(&mut self, row: usize, text: CellText)
-        requires text { keeps_text (target self.old) ≡ true }
         requires usable { IsUsable (row + 1) (target self.old) }
-        ensures { target self.new
-            ≡ option_map (put_value row (Some (Text (view_of_text text)))) (target self.old) };
+        ensures text { keeps_text (target self.old) ≡ true → target self.new
+            ≡ option_map (put_value row (Some (Text (view_of_text text)))) (target self.old) }
+        ensures other { keeps_text (target self.old) ≡ false → target self.new ≡ target self.old };
 
     /// Puts the number that all of a text stands for into a row's place, and sets the row's bit, or tells the
     /// text's fault. What is ahead begins with the text.
@@ -251,9 +252,7 @@ impl TableColumn for Option<Target<'_>> {
         }
     }
 
-    fn put_text(&mut self, row: usize, text: CellText) {
-        unreachable!()
-    }
+    fn put_text(&mut self, row: usize, text: CellText) {}
 
     fn put_missing(&mut self, row: usize) {
         match self {
