@@ -53,7 +53,7 @@ test("an engine without 64-bit memories is told what it lacks", () => {
 
 test("a module whose tables have another layout is told", async () => {
   const others = [
-    ["WORDS = 22", "WORDS = 24"], ["FIRST_ARRAY = 4", "FIRST_ARRAY = 6"], ["BITS = 20", "BITS = 18"],
+    ["WORDS = 26", "WORDS = 28"], ["FIRST_ARRAY = 6", "FIRST_ARRAY = 4"], ["BITS = 24", "BITS = 22"],
     ['"i64", "u64"', '"u64", "i64"'], ['"u32", "i16"', '"i16", "u32"'], ['"i8", "u8"', '"u8", "i8"'],
     ["[0n, 0n, ...spans]", "[0n, ...spans]"], ["[mark, sizes]", "[sizes, mark]"],
     ['"skips_empty_rows", "is_records"', '"is_records", "skips_empty_rows"'],
