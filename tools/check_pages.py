@@ -29,7 +29,7 @@ import source
 
 MOST_WORDS = 11640
 BUDGETS = {
-    "README.md": 850, "CONTRIBUTING.md": 820, "CHANGELOG.md": 290, "docs/ARCHITECTURE.md": 1290,
+    "README.md": 850, "CONTRIBUTING.md": 820, "CHANGELOG.md": 290, "docs/ARCHITECTURE.md": 1280,
     "docs/DECISIONS.md": 1700, "docs/DIFFERENCES.md": 1200, "docs/GRAMMAR.md": 2000,
     "docs/PERF.md": 1210, "docs/PROOFS.md": 1780, "docs/RELEASING.md": 250, "docs/SPEED.md": 500,
 }
