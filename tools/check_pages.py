@@ -27,10 +27,10 @@ from typing import Iterable
 import reference_lines
 import source
 
-MOST_WORDS = 11640
+MOST_WORDS = 11400
 BUDGETS = {
     "README.md": 850, "CONTRIBUTING.md": 820, "CHANGELOG.md": 290, "docs/ARCHITECTURE.md": 1280,
-    "docs/DECISIONS.md": 1700, "docs/DIFFERENCES.md": 1200, "docs/GRAMMAR.md": 2000,
+    "docs/DECISIONS.md": 1700, "docs/DIFFERENCES.md": 1200, "docs/GRAMMAR.md": 1830,
     "docs/PERF.md": 1210, "docs/PROOFS.md": 1780, "docs/RELEASING.md": 250, "docs/SPEED.md": 500,
 }
 # The pages that a tool writes whole. A further page of docs/ has to be in one of the two lists.
