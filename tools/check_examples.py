@@ -223,6 +223,12 @@ def of_words() -> Iterator[Case]:
     """The programs that read no input."""
     yield Case("ten_lines", said="err Overflow 19\n")
     yield Case("ten_lines", status=1, told=IS_FULL, redirected=FULL)
+    bank = "Rent: -123450\nBooks: 700\n"
+    yield Case("statement", said=bank + "row 2, byte 37: invalid digit\n")
+    yield Case("statement", status=1, told=IS_FULL, redirected=FULL)
+    yield Case("bank_statement", said=bank + 'line 2, column 3: "12,5o": invalid digit at byte 4 of '
+               "the cell\n")
+    yield Case("bank_statement", status=2, told=f"bank_statement: {IS_FULL}", redirected=FULL)
     yield Case("colour")
     yield Case("colour", said="30 144 255\n0 1 2\n", words=("1e90FF", "000102"))
     yield Case("colour", status=2, told=f"colour: {IS_FULL}", words=("1e90FF",), redirected=FULL)
