@@ -37,7 +37,7 @@ pub struct Column {
 /// Why a column isn't read to its end.
 #[derive(Debug, Copy, Clone, PartialEq, Eq)]
 pub enum ColumnError {
-    /// The format is invalid, and nothing was read.
+    /// The format is invalid, or the dialect is that of no column, and nothing was read.
     InvalidFormat(Error),
     /// A field is no number of the type. It is the first such one, and all before it were read.
     InvalidField {
