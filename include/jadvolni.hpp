@@ -546,8 +546,8 @@ std::from_chars_result from_chars(const char *first, const char *last, T &value,
 
 } // namespace jadvolni
 
-// The rest of it, in an order in which each has what it stands on.
-#define JADVOLNI_HPP_
+// The rest of it, in an order in which each has what it stands on. Each includes this header first: so one that is
+// included alone comes here in its turn, and is empty behind that.
 #include "jadvolni_tables.hpp"
 
 #include "jadvolni_faults.hpp"

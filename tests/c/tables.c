@@ -1,16 +1,5 @@
 /* The call of jadvolni.h that reads tables: each type, each status, each argument wrong, and hostile columns. */
-#include "jadvolni.h"
-#include "check.h"
-
-#define STANDARD JADVOLNI_FORMAT_STANDARD
-
-/* What is answered is this. */
-static int answers(jadvolni_table_result r, uint32_t status, size_t column, size_t rows, size_t place)
-{
-    if (r.status == status && r.column == column && r.rows == rows && r.place == place) return 1;
-    fprintf(stderr, "%s, column %zu, rows %zu, place %zu\n", jadvolni_status_name(r.status), r.column, r.rows, r.place);
-    return 0;
-}
+#include "tables.h"
 
 /* A table of one column of a type: its least and greatest number and a cell that is none, in room for four. */
 #define EACH_TYPE(name, type, least, greatest, at)                                                      \
