@@ -27,14 +27,7 @@ static const jadvolni_format STANDARD = JADVOLNI_FORMAT_STANDARD;
 
 static void each_type(void)
 {
-    EACH_TYPE(u8, uint8_t, 0, 255, 6);
-    EACH_TYPE(u16, uint16_t, 0, 65535, 8);
-    EACH_TYPE(u32, uint32_t, 0, 4294967295, 13);
-    EACH_TYPE(u64, uint64_t, 0, 18446744073709551615, 23);
-    EACH_TYPE(i8, int8_t, -128, 127, 9);
-    EACH_TYPE(i16, int16_t, -32768, 32767, 13);
-    EACH_TYPE(i32, int32_t, -2147483648, 2147483647, 23);
-    EACH_TYPE(i64, int64_t, -9223372036854775808, 9223372036854775807, 41);
+    OF_EACH_TYPE(EACH_TYPE);
 }
 
 /* Checks what a column of int16_t answers, where there is room for three and 77 stands in each place. */
