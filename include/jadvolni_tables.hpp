@@ -270,8 +270,7 @@ inline std::size_t room_of(const table_column &column) noexcept
 
 // The numbers of a text's lines as the one column of a table, as far as its array and its bits have room: with the
 // returns, the blanks and the missing numbers of the table, and the format or the fixed-point numbers of the column.
-// With '\n' as the table's separator no byte parts cells. The numbers before a fault stand, and it starts where its line
-// does.
+// With '\n' as the table's separator no byte parts cells. The numbers before a fault stand.
 //
 //     jadvolni::table lines{};
 //     lines.separator = '\n', lines.allows_returns = 1;

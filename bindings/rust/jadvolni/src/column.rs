@@ -84,6 +84,9 @@ impl core::error::Error for ColumnError {}
 /// The numbers are at the slice's front, and the rest of it is as it was, also after a fault. What has
 /// no room isn't looked at: a call on the text from `stop` on goes on exactly there.
 ///
+/// Lines with returns, blanks, missing numbers or amounts are for
+/// [`parse_column_with_dialect`](crate::parse_column_with_dialect).
+///
 /// ```
 /// use jadvolni::{parse_column, Column, ColumnError, Error};
 /// let mut values = [0u8; 4];

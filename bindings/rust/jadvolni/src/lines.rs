@@ -5,8 +5,8 @@ use crate::{parse_table, row_place, Column, ColumnError, Dialect, Table, TableCo
 /// Reads the numbers of a text's lines as the one column of a table, as far as its slice and its bits have room: with
 /// the returns, the blanks and the missing numbers of a dialect, and the format or the amounts of the column.
 ///
-/// From [`Dialect::LINES`] on a line has one cell. What was read before a fault stays, and a fault is told as of
-/// [`parse_column`](crate::parse_column): it starts where its line does.
+/// By [`Dialect::LINES`] a line is one cell. What was read before a fault stays, and the fault is told as of
+/// [`parse_column`](crate::parse_column), where a field is a line.
 ///
 /// ```
 /// use jadvolni::{is_present, parse_column_with_dialect, Column, Dialect, Fixed, TableColumn};

@@ -1,32 +1,32 @@
 //! What the tests of readers read from.
 use std::io::{self, ErrorKind, Read};
 
-/// A reader of a text that gives so many bytes at most, and fails once, before the byte at a place.
+/// A reader of a text that gives so many bytes at most, and fails before the byte at each of some places, once each.
 pub struct Device<'a> {
     text: &'a [u8],
     most: usize,
     place: usize,
-    failure: Option<(usize, ErrorKind)>,
+    failures: Vec<(usize, ErrorKind)>,
 }
 
 impl Read for Device<'_> {
     fn read(&mut self, block: &mut [u8]) -> io::Result<usize> {
-        let mut end = self.text.len().min(self.place + self.most.min(block.len()));
-        if let Some((at, kind)) = self.failure {
-            if at == self.place {
-                self.failure = None;
-                return Err(kind.into());
-            }
-            end = end.min(at.max(self.place));
+        if let Some(index) = self.failures.iter().position(|(at, _)| *at == self.place) {
+            return Err(self.failures.remove(index).1.into());
         }
-        let given = &self.text[self.place..end];
-        block[..given.len()].copy_from_slice(given);
-        self.place = end;
-        Ok(given.len())
+        let later = self.failures.iter().map(|(at, _)| *at).filter(|at| *at > self.place);
+        let end = later.chain([self.text.len(), self.place.saturating_add(self.most)]).min();
+        let count = (&self.text[self.place..end.unwrap_or(self.place)]).read(block)?;
+        self.place += count;
+        Ok(count)
     }
 }
 
 /// One at its start.
-pub fn device(text: &[u8], most: usize, failure: Option<(usize, ErrorKind)>) -> Device<'_> {
-    Device { text, most, place: 0, failure }
+pub fn device(
+    text: &[u8],
+    most: usize,
+    failures: impl IntoIterator<Item = (usize, ErrorKind)>,
+) -> Device<'_> {
+    Device { text, most, place: 0, failures: failures.into_iter().collect() }
 }
