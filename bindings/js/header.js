@@ -3,7 +3,9 @@
 import { told } from "./arguments.js";
 import { HeaderError } from "./errors.js";
 
-const [QUOTE, LINE_FEED, RETURN] = [...'"\n\r'].map((it) => it.charCodeAt(0));
+export const QUOTE = 0x22;
+export const LINE_FEED = 0x0a;
+export const RETURN = 0x0d;
 const BYTE_ORDER_MARK = [0xef, 0xbb, 0xbf];
 const decoder = new TextDecoder("utf-8", { ignoreBOM: true });
 
@@ -34,10 +36,10 @@ export function endOfRow(bytes, start, { has_quotes, recordSize }) {
 }
 
 /** A row without what ends it. */
-function contentOf(row, { has_returns, recordSize }) {
+function contentOf(row, { has_returns, allows_returns, recordSize }) {
   if (recordSize !== undefined || row.at(-1) !== LINE_FEED) return row;
   const line = row.subarray(0, -1);
-  return has_returns && line.at(-1) === RETURN ? line.subarray(0, -1) : line;
+  return (has_returns || allows_returns) && line.at(-1) === RETURN ? line.subarray(0, -1) : line;
 }
 
 /** The cells of a row: those of the table's widths, or those between separators outside quotes. */
