@@ -2,7 +2,7 @@
 
 import { AMOUNT_FIELDS } from "./amounts.js";
 import { byteOf, flagOf, ofTable } from "./arguments.js";
-import { faultOfText } from "./errors.js";
+import { faultOfField } from "./errors.js";
 import { STANDARD, useFormat } from "./format.js";
 import { LINE_FEED } from "./header.js";
 import * as memory from "./memory.js";
@@ -48,6 +48,12 @@ function optionsOf(separator, format) {
   throw new TypeError("parseColumn has one format: it is one of the options, or stands behind a separator");
 }
 
+/** The fault of a field in a piece that so many bytes and fields stand before. */
+function faultInPiece(status, place, separator, start, field) {
+  const fieldPlace = Number(fieldStart(TEXT, BigInt(place), separator));
+  return faultOfField(status, start + place, field, start + fieldPlace);
+}
+
 /** The numbers of fields between separators. */
 function numbersOfFields(text, { call, numbers }, separator, format) {
   const bytes = memory.bytesOf(text);
@@ -60,7 +66,7 @@ function numbersOfFields(text, { call, numbers }, separator, format) {
     const whole = putFields(bytes, start, separator);
     call(ANSWER, TEXT, whole, separator, FORMAT, NUMBERS, capacity, COUNT);
     const [status, place, count] = [memory.status(), memory.place(), memory.count()];
-    if (status !== 0) throw faultOfText(status, start + place, field + count);
+    if (status !== 0) throw faultInPiece(status, place, separator, start, field + count);
     parts.push(numbers.slice(0, count));
     start += place;
     field += count;
@@ -77,7 +83,7 @@ function numbersOfLines(text, type, options) {
   const read = readOf({ type, ...chosen(["format", "may_miss", ...AMOUNT_FIELDS]) });
   const how = { ...tableOf({ separator: LINE_FEED, ...chosen(OF_TABLES) }, 1), unit: "field" };
   const bytes = memory.bytesOf(text); // (last, since what comes before may run code that takes them away)
-  const errorOf = ({ status, place, row }) => faultOfText(status, place, row);
+  const errorOf = (bad) => faultOfField(bad.status, bad.place, bad.row, bad.start);
   return readRows(bytes, 0, [read], how, errorOf).columns[0];
 }
 

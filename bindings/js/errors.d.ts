@@ -49,8 +49,9 @@ export class ParseError extends JadvolniError {
    * string that has ASCII alone before it.
    */
   readonly place: number;
-  /** In a column the index of the first field that is no number; else undefined. */
+  /** In a column the index of the first field that is no number, and where it starts; else undefined. */
   readonly field: number | undefined;
+  readonly start: number | undefined;
   /** In a table the number of the row, among right and bad ones; and the column. Else undefined. */
   readonly row: number | undefined;
   readonly column: number | undefined;

@@ -9,6 +9,7 @@ export class JadvolniError extends Error {
 // What each fault of a text has, beside its message: those of columns and tables have more.
 const NOTHING_MORE = {
   field: undefined,
+  start: undefined,
   row: undefined,
   line: undefined,
   column: undefined,
@@ -30,11 +31,16 @@ export class ParseError extends JadvolniError {
   }
 }
 
-/** The fault of a text that a call has answered, or of the field of a column. */
-export function faultOfText(status, place, field) {
+/** The fault of a text that a call has answered. */
+export function faultOfText(status, place) {
   const [kind, text] = STATUSES[status];
-  const inField = field === undefined ? "" : `, in field ${field}`;
-  return new ParseError(`${text} at byte ${place}${inField}`, kind, place, { field });
+  return new ParseError(`${text} at byte ${place}`, kind, place);
+}
+
+/** The fault of a field of a column, which starts at a place. */
+export function faultOfField(status, place, field, start) {
+  const [kind, text] = STATUSES[status];
+  return new ParseError(`${text} at byte ${place}, in field ${field}`, kind, place, { field, start });
 }
 
 export class FormatError extends JadvolniError {

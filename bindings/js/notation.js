@@ -17,7 +17,7 @@ const SKIPS = new Map([["throw", false], ["skip", true]]);
 function readOfTexts(fields) {
   const other = ["format", ...AMOUNT_FIELDS].find((name) => fields[name] !== undefined);
   if (other !== undefined) throw new TypeError(`${other} has to be left out where the type is "text"`);
-  return { type: "text", format: [], decoder: decoderOf(fields.encoding) };
+  return { type: "text", NumberArray: null, format: [], decoder: decoderOf(fields.encoding) };
 }
 
 /** What is read of a column of numbers, of which the format stands in front of what makes it one of amounts. */
@@ -66,7 +66,7 @@ function widthsOf({ separator, is_records, widths }, count) {
 /** Whether bad rows are skipped, and who is told of each. */
 function atFault({ onError = "throw", errors }) {
   const skips = ofTable(SKIPS, "onError", onError);
-  if (errors === undefined) return { skips };
+  if (errors === undefined) return { skips, tell: undefined };
   if (!skips) throw new TypeError('errors has to be left out unless onError is "skip"');
   if (typeof errors === "function") return { skips, tell: (error) => errors(error) };
   if (Array.isArray(errors)) return { skips, tell: (error) => errors.push(error) };

@@ -8,6 +8,7 @@ import type { AmountOptions, Byte, FormatOption, Text } from "./numbers.js";
 export interface ReadColumn extends FormatOption, AmountOptions {
   type: keyof Columns;
   may_miss?: boolean;
+  encoding?: undefined;
 }
 
 /** What is read of a column of texts. */
@@ -17,6 +18,8 @@ export interface ReadTexts {
   encoding?: string;
   /** Texts may be missing: those that are, byte for byte, what stands for a missing number. */
   may_miss?: boolean;
+  format?: undefined;
+  places?: undefined;
 }
 
 /** A column of a table: its type, or its type with more; null where it isn't read. */

@@ -42,7 +42,7 @@ test("amounts", () => {
   assert.deepEqual(parseColumn("1.5\r\n\n2", "u16", all),
     { numbers: Uint16Array.of(150, 0, 200), present: Uint8Array.of(1, 0, 1) });
   assert.throws(() => parseColumn("1.50\n2.505\n", "u16", { places: 2 }), {
-    message: "invalid digit at byte 9, in field 1", kind: "InvalidDigit", place: 9, field: 1,
+    message: "invalid digit at byte 9, in field 1", kind: "InvalidDigit", place: 9, field: 1, start: 5,
   });
   assert.throws(() => parseColumn("1", "u8", { places: 39 }), { name: "FormatError", kind: "InvalidPlaces" });
 });
@@ -54,7 +54,7 @@ test("a text larger than a piece of the memory is read whole", () => {
   const options = { allows_blanks: true, allows_returns: true };
   const wanted = parseColumn(text.replace(/[ \r]/g, ""), "i32");
   assert.deepEqual(parseColumn(text, "i32", options), wanted);
-  const fault = { kind: "InvalidDigit", place: text.length + 1, field: wanted.length };
+  const fault = { kind: "InvalidDigit", place: text.length + 1, field: wanted.length, start: text.length };
   assert.throws(() => parseColumn(`${text} x`, "i32", options), fault);
 });
 

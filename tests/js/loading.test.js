@@ -116,12 +116,20 @@ test("two copies have a memory each, and formats of their own", async () => {
 });
 
 test("what is put into all objects is no field", async () => {
-  const fields = { mantissa_radix: 16, separator: ";", may_miss: true };
+  const fields = {
+    mantissa_radix: 16, separator: ";", may_miss: true, places: 2, group: ",", allows_returns: true,
+    onError: "skip", errors: 1, tell: 1,
+  };
   Object.assign(Object.prototype, fields);
   try {
     const third = await loadWith("third", MODULE);
     assert.equal(third.parse("10", "u8", new third.Format()), 10);
+    assert.equal(third.parseFront("10", "u8", { format: new third.Format() }).value, 10);
     assert.deepEqual(third.parseTable("1,2", ["u8", "u8"]), [Uint8Array.of(1), Uint8Array.of(2)]);
+    assert.deepEqual(third.parseTable("1", [{ type: "u8" }], { header: false }), [Uint8Array.of(1)]);
+    assert.deepEqual([...third.parseTable("a", ["text"])[0]], ["a"]);
+    assert.deepEqual(third.parseColumn("1\n2", "u8"), Uint8Array.of(1, 2));
+    assert.deepEqual(third.parseColumn(" 1\n2", "u8", { allows_blanks: true }), Uint8Array.of(1, 2));
   } finally {
     for (const name of Object.keys(fields)) delete Object.prototype[name];
   }
