@@ -116,7 +116,8 @@ export function rightRows(size, isLast, { rows, badRows, count }) {
   const bad = badRows.length / WORDS_OF_BAD_ROW;
   callSkipping(ANSWER, TEXT, BigInt(size), isLast, TABLE, BigInt(rows), COLUMNS, count,
     BigInt(badRows.byteOffset), BigInt(bad));
-  const [, , , , right, , badCount, , place] = answer;
+  const [status, , , , right, , badCount, , place] = answer;
+  if (status !== 0) throw memory.otherVersion("it refuses a table");
   const told = Array.from({ length: Math.min(bad, badCount) }, (_, index) => badRowAt(badRows, index));
   return { count: right, place, badCount, bad: told };
 }

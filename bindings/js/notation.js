@@ -84,7 +84,7 @@ export function tableOf(given, count) {
     ...atFault(fields),
     bytes: [separator, ...flags.map(([, flag]) => Number(flag))],
     header: flagOf("header", fields.header),
-    missing: bytesOf(fields.missing === undefined ? "" : fields.missing, "missing"),
+    missing: bytesOf(fields.missing === undefined ? "" : fields.missing, "missing").slice(),
     recordSize: fields.is_records ? Math.max(1, Number(widths.reduce((sum, it) => sum + it, 0n))) : undefined,
     separator,
     widths,

@@ -40,11 +40,12 @@ export function quotedBytes(bytes, most) {
   const dots = bytes.length > most ? ".." : "";
   const front = frontOf(bytes, most);
   if (!front.includes("\ufffd")) return `${quoted(front)}${dots}`;
-  let [all, at] = ["", 0];
-  while (at < Math.min(most, bytes.length)) {
+  let all = "";
+  for (let at = 0, size = 1; at < Math.min(most, bytes.length); at += size) {
     const character = characterOf(bytes.subarray(at));
+    size = character === undefined ? 1 : new TextEncoder().encode(character).length;
+    if (at + size > most) break;
     all += character === undefined ? `\\x${hexadecimal(bytes[at])}` : character.replace(UNSEEN, escaped);
-    at += character === undefined ? 1 : new TextEncoder().encode(character).length;
   }
   return `"${all}"${dots}`;
 }

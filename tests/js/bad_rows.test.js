@@ -150,6 +150,11 @@ test("bytes that are taken away meanwhile are told", () => {
   const errors = () => bytes.buffer.byteLength > 0 && structuredClone(bytes.buffer, { transfer: [bytes.buffer] });
   const lost = { name: "TypeError", message: /^text has lost its bytes/ };
   assert.throws(() => parseTable(bytes, ["u8"], { onError, errors }), lost);
+  const missing = Uint8Array.of(78, 65);
+  const text = `${"x\n".repeat(100_000)}NA\n`;
+  const takes = () => missing.length > 0 && structuredClone(missing.buffer, { transfer: [missing.buffer] });
+  const read = parseTable(text, [{ type: "u8", may_miss: true }], { missing, onError, errors: takes });
+  assert.deepEqual(read.columns, [{ numbers: Uint8Array.of(0), present: Uint8Array.of(0) }]); // (what it was is kept)
   const memory = new WebAssembly.Memory({ initial: 4 });
   new Uint8Array(memory.buffer).fill(0x0a);
   const grows = () => memory.buffer.byteLength === 4 << 16 && memory.grow(1);

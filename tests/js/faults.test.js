@@ -99,6 +99,7 @@ test("what is wrong with rows", () => {
 
 test("what a message shows of a cell", () => {
   const nines = "9".repeat(39);
+  const cut = nines.slice(1); // (with one more byte before them, a character that comes next isn't whole)
   const cells = [
     ["\0", '"\\x00"', "\0"],
     [Uint8Array.of(0xff, 0xc3), '"\\xff\\xc3"', "\ufffd\ufffd"],
@@ -110,7 +111,8 @@ test("what a message shows of a cell", () => {
     ["\u202e\ufeff\xa0 x", '"\\u{202e}\\u{feff}\\xa0 x"', "\u202e\ufeff\xa0 x"],
     ["x".repeat(40), `"${"x".repeat(40)}"`, "x".repeat(40)],
     ["x".repeat(41), `"${"x".repeat(40)}"..`, "x".repeat(40)],
-    [`x${nines.slice(1)}ä${nines}`, `"x${nines.slice(1)}"..`, `x${nines.slice(1)}`],
+    [`x${cut}ä${nines}`, `"x${cut}"..`, `x${cut}`],
+    [Buffer.concat([Buffer.of(0xff), Buffer.from(`${cut}ä`)]), `"\\xff${cut}"..`, `\ufffd${cut}`],
   ];
   for (const [cell, shown, text] of cells) {
     const bytes = Buffer.concat([Buffer.from("1;"), Buffer.from(cell), Buffer.from("\n")]);

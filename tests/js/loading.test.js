@@ -85,7 +85,7 @@ test("a module whose tables have another layout is told", async () => {
     ["tablePlace + 48", "tablePlace + 40"], ["[status, , column, , row,", "[status, , row, , column,"],
     ["WORDS_OF_BAD_ROW = 16", "WORDS_OF_BAD_ROW = 12"],
     ["row, , column, , place, , start]", "column, , row, , place, , start]"],
-    [", , place, , start]", ", , start, , place]"], [", right, , badCount,", ", badCount, , right,"],
+    [", , place, , start]", ", , start, , place]"], ["[status, , , , right, , badCount,", "[status, , , , badCount, , right,"],
   ];
   const texts = [
     ["WORDS_OF_TEXT = 6", "WORDS_OF_TEXT = 4"], ["words[at]", "words[at + 1]"], ["at + 2", "at + 3"],
