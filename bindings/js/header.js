@@ -11,6 +11,8 @@ const decoder = new TextDecoder("utf-8", { ignoreBOM: true });
 
 // So many names are listed in a message.
 const LISTED = 40;
+// What tables have between their cells.
+const SEPARATORS = [",", ";", "\t", "|"];
 
 /**
  * Where the row stops that begins at a place, what ends it counted, and the place of a quote that is open there. A line
@@ -95,10 +97,18 @@ function listed(names) {
   return names.slice(0, LISTED).map(told).join(", ") + rest;
 }
 
+/** What may be wrong where a header has one column, and no name is found. */
+function hintOf(names, { separator, widths }) {
+  const isOther = (it) => names[0].includes(it) && it.charCodeAt(0) !== separator;
+  const other = names.length === 1 && widths.length === 0 ? SEPARATORS.find(isOther) : undefined;
+  return other === undefined ? "" : `; separator may have to be ${told(other)}`;
+}
+
 /** The column that alone has a name. */
-export function columnOf(names, name) {
+export function columnOf(names, name, how) {
   const column = names.indexOf(name);
   if (column !== -1 && names.indexOf(name, column + 1) === -1) return column;
   const [kind, count] = column === -1 ? ["Missing", "no"] : ["Doubled", "more than one"];
-  throw new HeaderError(kind, `${count} column ${told(name)}: the header has ${listed(names)}`, names);
+  const hint = column === -1 ? hintOf(names, how) : "";
+  throw new HeaderError(kind, `${count} column ${told(name)}: the header has ${listed(names)}${hint}`, names);
 }

@@ -33,7 +33,7 @@ function parseByHeader(text, columns, table) {
   if (!how.header) throw new TypeError("columns by their names need a table with header: true");
   const bytes = memory.bytesOf(text); // (last, as below)
   const { names, stop } = judgedHeader(bytes, how);
-  const places = wanted.map(([name]) => columnOf(names, name));
+  const places = wanted.map(([name]) => columnOf(names, name, how));
   const reads = Array(names.length).fill(null);
   places.forEach((place, index) => (reads[place] = wanted[index][1]));
   return answerOf(bytes, stop, reads, how, names, (arrays) =>

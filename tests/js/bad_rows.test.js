@@ -57,31 +57,67 @@ test("a header is never skipped", () => {
   assert.throws(() => parseTable("b\n", { a: "u8" }, table), { kind: "Missing" });
 });
 
+/** The rows of a text: where each starts, and what it has with what ends it. */
+function rowsOf(text, { has_quotes, skips_empty_rows, widths, is_records }) {
+  const size = is_records ? widths.reduce((sum, it) => sum + it) : 0;
+  const rows = [];
+  let [start, isWithin] = [0, false];
+  for (let at = 0; at < text.length; at++) {
+    isWithin = isWithin !== (has_quotes === true && text[at] === '"');
+    const isEnd = is_records ? at + 1 - start === size : text[at] === "\n" && !isWithin;
+    if (!isEnd && at + 1 < text.length) continue;
+    rows.push({ start, row: text.slice(start, at + 1) });
+    start = at + 1;
+  }
+  return rows.filter(({ row }) => !skips_empty_rows || !["\n", "\r\n"].includes(row));
+}
+
+/** A message about a row that was read alone, with the number of its line or row in the whole text. */
+function renumbered(message, row, linesBefore) {
+  return message.replace(/^(line|row) (\d+)/, (_, unit, number) =>
+    `${unit} ${Number(number) + (unit === "row" ? row : linesBefore)}`);
+}
+
+/** The columns and the bad rows of a text, of which each row is read alone. */
+function readAlone(text, columns, table) {
+  const found = { columns: columns.map(() => []), bad: [] };
+  for (const [number, { start, row }] of rowsOf(text, table).entries()) {
+    try {
+      parseTable(row, columns, table).forEach((numbers, index) => found.columns[index].push(...numbers));
+    } catch (error) {
+      const linesBefore = text.slice(0, start).split("\n").length - 1;
+      const places = [error.place, error.rowStart, error.rowStop].map((it) => it + start);
+      found.bad.push([number, error.kind, ...places, renumbered(error.message, number, linesBefore)]);
+    }
+  }
+  return found;
+}
+
 test("random texts beside their rows, each read alone", () => {
-  const pieces = ["1,2\n", "3,-4\r\n", "5,6\n", "7,8\r\n", "1", "300", "x", ",", "\n", "\r", "-7"];
+  const pieces = ["1,2\n", "3,-4\r\n", '5,"6"\n', '"7",8\r\n', "1", "300", "x", ",", "\n", "\r", "-7", '"'];
+  const settings = [
+    { allows_returns: true },
+    { has_quotes: true, allows_returns: true },
+    { has_quotes: true, skips_empty_rows: true, has_returns: true },
+    { skips_empty_rows: true, allows_returns: true, allows_blanks: true },
+    { widths: [1, 2], allows_returns: true },
+    { widths: [2, 1], is_records: true },
+  ];
   let state = 3;
   const draw = (below) => {
     state = (Math.imul(state, 1664525) + 1013904223) >>> 0;
     return Math.floor((state / 2 ** 32) * below);
   };
   let [right, bad] = [0, 0];
-  for (let time = 0; time < 5000; time++) {
-    const text = Array.from({ length: draw(30) }, () => pieces[draw(11)]).join("");
-    const rows = text.match(/[^\n]*\n|[^\n]+$/g) ?? [];
-    const wanted = [[], [], []];
-    for (const [row, line] of rows.entries()) {
-      try {
-        const [[first], [second]] = parseTable(line, ["u8", "i16"], { allows_returns: true });
-        wanted[0].push(first);
-        wanted[1].push(second);
-      } catch (error) {
-        wanted[2].push(`${row} ${error.kind} ${error.message.replace(/^line 1/, `line ${row + 1}`)}`);
-      }
-    }
+  for (let time = 0; time < 6000; time++) {
+    const text = Array.from({ length: draw(30) }, () => pieces[draw(pieces.length)]).join("");
+    const table = settings[time % settings.length];
+    const wanted = readAlone(text, ["u8", "i16"], table);
     const errors = [];
-    const { columns, badRows } = parseTable(text, ["u8", "i16"], { allows_returns: true, onError, errors });
-    assert.deepEqual([Array.from(columns[0]), Array.from(columns[1])], wanted.slice(0, 2), JSON.stringify(text));
-    assert.deepEqual(errors.map((it) => `${it.row} ${it.kind} ${it.message}`), wanted[2]);
+    const { columns, badRows } = parseTable(text, ["u8", "i16"], { ...table, onError, errors });
+    assert.deepEqual(columns.map((it) => Array.from(it)), wanted.columns, JSON.stringify({ text, table }));
+    const told = errors.map((it) => [it.row, it.kind, it.place, it.rowStart, it.rowStop, it.message]);
+    assert.deepEqual(told, wanted.bad, JSON.stringify({ text, table }));
     assert.equal(badRows, errors.length);
     [right, bad] = [right + columns[0].length, bad + badRows];
   }

@@ -66,6 +66,9 @@ test("names that are missing or stand twice", () => {
     'HeaderError: no column "cent": the header has "id", "cents", "id"');
   assert.equal(told("id,constructor\n", { toString: "u8" }),
     'HeaderError: no column "toString": the header has "id", "constructor"');
+  assert.equal(told("id;cents\n", { cents: "u8" }),
+    'HeaderError: no column "cents": the header has "id;cents"; separator may have to be ";"');
+  assert.equal(told("id cents\n", { cents: "u8" }), 'HeaderError: no column "cents": the header has "id cents"');
   const many = Array.from({ length: 1000 }, (_, index) => index).join();
   assert.match(told(many, { x: "u8" }), /^HeaderError: no column "x": the header has "0", .*, "39" and 960 more$/);
 });
