@@ -2,29 +2,13 @@
 import assert from "node:assert/strict";
 import { spawnSync } from "node:child_process";
 import { once } from "node:events";
-import { cpSync, mkdirSync, mkdtempSync, readdirSync, readFileSync, rmSync, writeFileSync } from "node:fs";
-import { tmpdir } from "node:os";
+import { mkdirSync, readdirSync } from "node:fs";
 import { join } from "node:path";
-import { after, test } from "node:test";
-import { fileURLToPath, pathToFileURL } from "node:url";
+import { test } from "node:test";
 import { Worker } from "node:worker_threads";
 import { formats, parse } from "../../bindings/js/index.js";
+import { folder, loadWith, MODULE, PACKAGE, replacing } from "./copies.js";
 
-const PACKAGE = fileURLToPath(new URL("../../bindings/js", import.meta.url));
-const MODULE = readFileSync(join(PACKAGE, "jadvolni.wasm"));
-const folder = mkdtempSync(join(tmpdir(), "jadvolni-"));
-after(() => rmSync(folder, { recursive: true }));
-
-/** Loads a copy of the package, changed, with other bytes as its module, or without one. */
-function loadWith(name, bytes, change = () => {}) {
-  const copy = join(folder, name);
-  cpSync(PACKAGE, copy, { recursive: true });
-  const module = join(copy, "jadvolni.wasm");
-  if (bytes) writeFileSync(module, bytes);
-  else rmSync(module);
-  change(copy);
-  return import(pathToFileURL(join(copy, "index.js")));
-}
 
 test("a module that is missing, damaged or another is told", async () => {
   const other = Buffer.from("0061736d01000000", "hex"); // it exports nothing
@@ -85,7 +69,8 @@ test("a module whose tables have another layout is told", async () => {
     ["tablePlace + 48", "tablePlace + 40"], ["[status, , column, , row,", "[status, , row, , column,"],
     ["WORDS_OF_BAD_ROW = 16", "WORDS_OF_BAD_ROW = 12"],
     ["row, , column, , place, , start]", "column, , row, , place, , start]"],
-    [", , place, , start]", ", , start, , place]"], ["[status, , , , right, , badCount,", "[status, , , , badCount, , right,"],
+    [", , place, , start]", ", , start, , place]"],
+    ["[status, , , , right, , badCount,", "[status, , , , badCount, , right,"],
   ];
   const texts = [
     ["WORDS_OF_TEXT = 6", "WORDS_OF_TEXT = 4"], ["words[at]", "words[at + 1]"], ["at + 2", "at + 3"],
@@ -96,12 +81,7 @@ test("a module whose tables have another layout is told", async () => {
     edits.map((edit) => [file, ...edit]));
   const message = /jadvolni\.wasm is of another version: its tables have another layout$/;
   for (const [index, [file, ours, theirs]] of others.entries()) {
-    const loading = loadWith(`layout${index}`, MODULE, (copy) => {
-      const path = join(copy, `${file}.js`);
-      const source = readFileSync(path, "utf8");
-      assert.ok(source.includes(ours), ours);
-      writeFileSync(path, source.replace(ours, theirs));
-    });
+    const loading = loadWith(`layout${index}`, MODULE, replacing(`${file}.js`, ours, theirs));
     await assert.rejects(loading, { name: "JadvolniError", message }, theirs);
   }
 });
