@@ -88,6 +88,7 @@ test("what is wrong with rows", () => {
     ['1,2\n"3,4\n', quotes, 0, '"3,4\n', 'line 2, column 1: "\\"3,4\\n": misplaced quote at byte 0 of the cell'],
     ['1,2\n"3",4"5\n', quotes, 1, '4"5\n', 'line 2, column 2: "4\\"5\\n": misplaced quote at byte 1 of the cell'],
     ['1,2\n"3,4"\n', quotes, 0, '"3,4"', 'line 2, column 1: "\\"3,4\\"": invalid digit at byte 2 of the cell'],
+    ['1,2\n"3,4"x,5\n', quotes, 0, '"3,4"x', 'line 2, column 1: "\\"3,4\\"x": misplaced quote at byte 4 of the cell'],
     ["1,2\n,4", {}, 0, "", 'line 2, column 1: "": missing digit at byte 0 of the cell'],
   ];
   for (const [text, table, column, cell, message] of wrong) {
