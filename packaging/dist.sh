@@ -90,7 +90,7 @@ fi
 
 echo "JavaScript, and the page to try a format on"
 mkdir "$work/tree/package"
-cp bindings/js/*.js bindings/js/index.d.ts bindings/js/package.json build/jadvolni.wasm \
+cp bindings/js/*.js bindings/js/*.d.ts bindings/js/package.json build/jadvolni.wasm \
     LICENSE-APACHE LICENSE-MIT NOTICE "$work/tree/package"
 unlinked bindings/js/README.md > "$work/tree/package/README.md"
 packed "jadvolni-$version.tgz" package

@@ -286,7 +286,7 @@ REGIONS = [
            lambda fields: str(sum(it.kind == "flag" for it in fields))),
     Region(FLAGS, "[bool; FLAGS] {\n    [\n", "    ]", each(flag="        format.{it.name}(),\n")),
     Region(FLAGS, "    let each = [\n", "    ]", each(flag="        bare.{it.name}(true),\n")),
-    Region("bindings/js/index.d.ts", "export interface Fields {\n", "}\n", in_types),
+    Region("bindings/js/format.d.ts", "export interface Fields {\n", "}\n", in_types),
     Region("tools/reference.py", "those of the standard one.\"\"\"\n\n", "\n\nSTANDARD = ",
            in_dataclass("Optional[int]")),
     Region("docs/GRAMMAR.md", "| Field | Setter of `NumberFormatBuilder` |\n|---|---|\n",

@@ -17,7 +17,7 @@ END_C = "\n/* JADVOLNI_UNKNOWN_FIELD where"
 BEGIN_CPP, END_CPP = "namespace formats {\n", "} // namespace formats\n"
 RUST = "bindings/rust/jadvolni/src/languages.rs"
 PYTHON = "bindings/python/src/jadvolni/formats.py"
-JAVASCRIPT, TYPES = "bindings/js/lists.js", "bindings/js/index.d.ts"
+JAVASCRIPT, TYPES = "bindings/js/lists.js", "bindings/js/format.d.ts"
 
 
 def in_c(groups: list[Group], fields: list[Field]) -> str:

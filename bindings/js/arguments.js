@@ -28,6 +28,12 @@ export function byteOf(name, value) {
   );
 }
 
+/** A flag that was given. */
+export function flagOf(name, value = false) {
+  if (typeof value === "boolean") return value;
+  throw new TypeError(`${name} has to be true or false, and not ${told(value)}`);
+}
+
 /** What a table has under a name. */
 export function ofTable(table, name, value) {
   const found = table.get(value);

@@ -1,30 +1,25 @@
 // Columns: the numbers of a text's fields. A text of any length goes through memory piece by piece.
 
-import { byteOf, ofTable } from "./arguments.js";
-import { ParseError } from "./errors.js";
+import { AMOUNT_FIELDS } from "./amounts.js";
+import { byteOf, flagOf, ofTable } from "./arguments.js";
+import { faultOfField } from "./errors.js";
 import { STANDARD, useFormat } from "./format.js";
+import { LINE_FEED } from "./header.js";
 import * as memory from "./memory.js";
+import { readOf, tableOf } from "./notation.js";
 import { areNamed, namedOptions } from "./options.js";
+import { ARRAYS, joined, numbersPlace, PIECE } from "./pieces.js";
+import { readRows } from "./rows.js";
 
 const { ANSWER, COUNT, FORMAT, TEXT } = memory;
 const fieldStart = memory.named("jadvolni_field_start");
 
-// A fifth of the memory is for text, of which two bytes give a number of at most eight.
-export const PIECE = Math.floor(memory.LONGEST / 5);
 export const LONGEST_FIELD = PIECE - 1; // and behind it the separator
-export const numbersPlace = Math.ceil((memory.textPlace + PIECE) / 16) * 16;
 const NUMBERS = BigInt(numbersPlace);
 
-export const ARRAYS = {
-  u8: Uint8Array,
-  u16: Uint16Array,
-  u32: Uint32Array,
-  u64: BigUint64Array,
-  i8: Int8Array,
-  i16: Int16Array,
-  i32: Int32Array,
-  i64: BigInt64Array,
-};
+// What a column has of tables: it is read as one of a single column then, and its fields are lines.
+const OF_TABLES = ["has_returns", "allows_returns", "allows_blanks", "missing"];
+const OF_LINES = [...OF_TABLES, "may_miss", ...AMOUNT_FIELDS];
 
 const TYPES = new Map(
   Object.entries(ARRAYS).map(([name, NumberArray]) => {
@@ -46,29 +41,21 @@ function putFields(bytes, start, separator) {
   return whole;
 }
 
-/** The numbers of all parts, of which the arrays are of one type. */
-export function joined(parts, NumberArray) {
-  if (parts.length === 1) return parts[0];
-  const all = new NumberArray(parts.reduce((sum, part) => sum + part.length, 0));
-  let place = 0;
-  for (const part of parts) {
-    all.set(part, place);
-    place += part.length;
-  }
-  return all;
-}
-
-/** The separator and the format of a column, which were given in turn or by their names. */
+/** The options of a column, of which separator and format may be given in turn. */
 function optionsOf(separator, format) {
-  if (!areNamed(separator)) return { separator, format };
-  if (format === undefined) return namedOptions("parseColumn", separator, ["separator", "format"]);
+  if (!areNamed(separator)) return { __proto__: null, separator, format };
+  if (format === undefined) return namedOptions("parseColumn", separator, ["separator", "format", ...OF_LINES]);
   throw new TypeError("parseColumn has one format: it is one of the options, or stands behind a separator");
 }
 
-export function parseColumn(text, type, ...options) {
-  const { call, numbers } = ofTable(TYPES, "type", type);
-  const { separator = "\n", format = STANDARD } = optionsOf(...options);
-  const separatorByte = byteOf("separator", separator);
+/** The fault of a field in a piece that so many bytes and fields stand before. */
+function faultInPiece(status, place, separator, start, field) {
+  const fieldPlace = Number(fieldStart(TEXT, BigInt(place), separator));
+  return faultOfField(status, start + place, field, start + fieldPlace);
+}
+
+/** The numbers of fields between separators. */
+function numbersOfFields(text, { call, numbers }, separator, format) {
   const bytes = memory.bytesOf(text);
   useFormat(format);
   const capacity = BigInt(numbers.length);
@@ -76,13 +63,37 @@ export function parseColumn(text, type, ...options) {
   let start = 0;
   let field = 0;
   while (start < bytes.length) {
-    const whole = putFields(bytes, start, separatorByte);
-    call(ANSWER, TEXT, whole, separatorByte, FORMAT, NUMBERS, capacity, COUNT);
+    const whole = putFields(bytes, start, separator);
+    call(ANSWER, TEXT, whole, separator, FORMAT, NUMBERS, capacity, COUNT);
     const [status, place, count] = [memory.status(), memory.place(), memory.count()];
-    if (status !== 0) throw new ParseError(status, start + place, { field: field + count });
+    if (status !== 0) throw faultInPiece(status, place, separator, start, field + count);
     parts.push(numbers.slice(0, count));
     start += place;
     field += count;
   }
   return joined(parts, numbers.constructor);
+}
+
+/** The numbers of lines, as those of a table whose one column no byte but a line feed ends. */
+function numbersOfLines(text, type, options) {
+  const chosen = (names) => Object.fromEntries(names.map((name) => [name, options[name]]));
+  if (options.missing !== undefined && !flagOf("may_miss", options.may_miss)) {
+    throw new TypeError("missing has to be left out unless may_miss is true");
+  }
+  const read = readOf({ type, ...chosen(["format", "may_miss", ...AMOUNT_FIELDS]) });
+  const how = { ...tableOf({ separator: LINE_FEED, ...chosen(OF_TABLES) }, 1), unit: "field" };
+  const bytes = memory.bytesOf(text); // (last, since what comes before may run code that takes them away)
+  const errorOf = (bad) => faultOfField(bad.status, bad.place, bad.row, bad.start);
+  return readRows(bytes, 0, [read], how, errorOf).columns[0];
+}
+
+export function parseColumn(text, type, ...options) {
+  const calls = ofTable(TYPES, "type", type);
+  const given = optionsOf(...options);
+  const { separator = "\n", format = STANDARD } = given;
+  const separatorByte = byteOf("separator", separator);
+  const ofLines = OF_LINES.find((name) => given[name] !== undefined);
+  if (ofLines === undefined) return numbersOfFields(text, calls, separatorByte, format);
+  if (separatorByte === LINE_FEED) return numbersOfLines(text, type, given);
+  throw new TypeError(`${ofLines} has to be left out unless the separator is a line feed`);
 }

@@ -3,12 +3,16 @@
 import { told } from "./arguments.js";
 import { HeaderError } from "./errors.js";
 
-const [QUOTE, LINE_FEED, RETURN] = [...'"\n\r'].map((it) => it.charCodeAt(0));
+export const QUOTE = 0x22;
+export const LINE_FEED = 0x0a;
+export const RETURN = 0x0d;
 const BYTE_ORDER_MARK = [0xef, 0xbb, 0xbf];
 const decoder = new TextDecoder("utf-8", { ignoreBOM: true });
 
 // So many names are listed in a message.
 const LISTED = 40;
+// What tables have between their cells.
+const SEPARATORS = [",", ";", "\t", "|"];
 
 /**
  * Where the row stops that begins at a place, what ends it counted, and the place of a quote that is open there. A line
@@ -34,10 +38,10 @@ export function endOfRow(bytes, start, { has_quotes, recordSize }) {
 }
 
 /** A row without what ends it. */
-function contentOf(row, { has_returns, recordSize }) {
+function contentOf(row, { has_returns, allows_returns, recordSize }) {
   if (recordSize !== undefined || row.at(-1) !== LINE_FEED) return row;
   const line = row.subarray(0, -1);
-  return has_returns && line.at(-1) === RETURN ? line.subarray(0, -1) : line;
+  return (has_returns || allows_returns) && line.at(-1) === RETURN ? line.subarray(0, -1) : line;
 }
 
 /** The cells of a row: those of the table's widths, or those between separators outside quotes. */
@@ -93,10 +97,18 @@ function listed(names) {
   return names.slice(0, LISTED).map(told).join(", ") + rest;
 }
 
+/** What may be wrong where a header has one column, and no name is found. */
+function hintOf(names, { separator, widths }) {
+  const isOther = (it) => names[0].includes(it) && it.charCodeAt(0) !== separator;
+  const other = names.length === 1 && widths.length === 0 ? SEPARATORS.find(isOther) : undefined;
+  return other === undefined ? "" : `; separator may have to be ${told(other)}`;
+}
+
 /** The column that alone has a name. */
-export function columnOf(names, name) {
+export function columnOf(names, name, how) {
   const column = names.indexOf(name);
   if (column !== -1 && names.indexOf(name, column + 1) === -1) return column;
   const [kind, count] = column === -1 ? ["Missing", "no"] : ["Doubled", "more than one"];
-  throw new HeaderError(kind, `${count} column ${told(name)}: the header has ${listed(names)}`, names);
+  const hint = column === -1 ? hintOf(names, how) : "";
+  throw new HeaderError(kind, `${count} column ${told(name)}: the header has ${listed(names)}${hint}`, names);
 }

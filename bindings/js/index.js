@@ -6,4 +6,5 @@ export { FormatError, HeaderError, JadvolniError, ParseError } from "./errors.js
 export { FIELDS, Format, formats } from "./format.js";
 export { LONGEST } from "./memory.js";
 export { parse, parseFront, parseLiteral, parsePartial } from "./numbers.js";
-export { LONGEST_ROW, parseTable } from "./tables.js";
+export { LONGEST_ROW } from "./rows.js";
+export { parseTable } from "./tables.js";

@@ -61,13 +61,14 @@ export function named(name) {
 
 export const buffer = named("memory").buffer;
 
-// What a call is given and gives: its answer, a number, a count, a format, and from there on a
-// text. It takes their addresses, and writes an answer of two words to the first of them.
+// What a call is given and gives: its answer, a number, a count, a format, with what makes it one of
+// amounts, and from there on a text. It takes their addresses, and writes an answer of two words to
+// the first of them.
 const answerPlace = Math.ceil(Number(named("__heap_base").value) / 16) * 16;
 const numberPlace = answerPlace + 16;
 const countPlace = numberPlace + 16;
 const formatPlace = countPlace + 16;
-export const textPlace = formatPlace + 32;
+export const textPlace = formatPlace + 48;
 export const ANSWER = BigInt(answerPlace);
 export const NUMBER = BigInt(numberPlace);
 export const COUNT = BigInt(countPlace);
@@ -77,7 +78,7 @@ export const LONGEST = buffer.byteLength - textPlace;
 
 const answer = new Uint32Array(buffer, answerPlace, 4);
 const counted = new Uint32Array(buffer, countPlace, 1);
-const formatBytes = new Uint8Array(buffer, formatPlace, 32);
+const formatBytes = new Uint8Array(buffer, formatPlace, 48);
 const textBytes = new Uint8Array(buffer, textPlace);
 const encoder = new TextEncoder();
 const decoder = new TextDecoder();
@@ -101,7 +102,7 @@ export function textBetween(start, stop) {
 
 let putBefore;
 
-/** Copies the bytes of a format, which stay as they are: those of the call before are there. */
+/** Copies the bytes of a format or of amounts, which stay as they are: those of the call before are there. */
 export function putFormat(bytes) {
   if (bytes === putBefore) return;
   formatBytes.set(bytes);
@@ -134,14 +135,17 @@ function hasLostBytes(bytes) {
   }
 }
 
+/** What is thrown where a text had bytes, and hasn't any more. */
+export function lostBytes(name = "text") {
+  return new TypeError(`${name} has lost its bytes: its buffer was transferred or cut`);
+}
+
 /** Asks that a text that is no string has bytes. They may be another frame's or context's. */
 function askBytes(text, name) {
   if (!ArrayBuffer.isView(text) || text.BYTES_PER_ELEMENT !== 1) {
     throw new TypeError(`${name} has to be a string or a Uint8Array, and not ${told(text)}`);
   }
-  if (lengthOf(text) === 0 && hasLostBytes(text)) {
-    throw new TypeError(`${name} has lost its bytes: its buffer was transferred or cut`);
-  }
+  if (lengthOf(text) === 0 && hasLostBytes(text)) throw lostBytes(name);
 }
 
 /** The bytes of a text. */

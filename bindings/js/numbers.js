@@ -1,7 +1,8 @@
 // One number, of any of the twelve types.
 
+import { AMOUNT_FIELDS, amountOf } from "./amounts.js";
 import { ofTable } from "./arguments.js";
-import { ParseError } from "./errors.js";
+import { faultOfText, ParseError } from "./errors.js";
 import { STANDARD, useFormat } from "./format.js";
 import * as memory from "./memory.js";
 import { areNamed, boundsOf, faultBesideBounds, formatOf, namedOptions, outOfBounds } from "./options.js";
@@ -12,7 +13,7 @@ const literalCall = memory.named("jadvolni_parse_literal");
 /** The place at which a call has stopped, or the fault that it has found. */
 function stopOfCall() {
   const status = memory.status();
-  if (status !== 0) throw new ParseError(status, memory.place());
+  if (status !== 0) throw faultOfText(status, memory.place());
   return memory.place();
 }
 
@@ -28,6 +29,17 @@ function callOf(name) {
       useFormat(format);
       callUnderFormat(ANSWER, TEXT, length, FORMAT, NUMBER);
     }
+    return stopOfCall();
+  };
+}
+
+/** The same for an amount, whose description stands where a format does. */
+function callOfAmount(name) {
+  const call = memory.named(`jadvolni_parse_${name}`);
+  return (text, amount) => {
+    const length = BigInt(memory.putText(text));
+    memory.putFormat(amount);
+    call(ANSWER, TEXT, length, FORMAT, NUMBER);
     return stopOfCall();
   };
 }
@@ -67,26 +79,29 @@ const TYPES = new Map(
       parse: callOf(name),
       parseFront: callOf(`${name}_front`),
       parsePartial: callOf(`${name}_partial`),
+      parseAmount: callOfAmount(`${name}_fixed`),
+      parseAmountFront: callOfAmount(`${name}_fixed_front`),
       number,
     },
   ]),
 );
 
-/** The number of a whole text. */
-function numberOfWhole(text, type, format) {
+/** The number of a whole text, which may be an amount. */
+function numberOfWhole(text, type, format, amount) {
   const calls = ofTable(TYPES, "type", type);
-  calls.parse(text, format);
+  if (amount === undefined) calls.parse(text, format);
+  else calls.parseAmount(text, amount);
   return calls.number();
 }
 
 /** The number of a whole text within bounds. */
-function numberWithin(text, type, format, bounds) {
+function numberWithin(text, type, format, amount, bounds) {
   let number;
   try {
-    number = numberOfWhole(text, type, format);
+    number = numberOfWhole(text, type, format, amount);
   } catch (fault) {
     if (!(fault instanceof ParseError)) throw fault;
-    throw faultBesideBounds(fault, text, bounds, () => numberOfWhole(text, "i128", format));
+    throw faultBesideBounds(fault, text, bounds, () => numberOfWhole(text, "i128", format, amount));
   }
   if (number < bounds.min || number > bounds.max) throw outOfBounds(text, bounds);
   return number;
@@ -94,16 +109,21 @@ function numberWithin(text, type, format, bounds) {
 
 export function parse(text, type, options) {
   if (options === undefined || !areNamed(options)) return numberOfWhole(text, type, options);
-  const named = namedOptions("parse", options, ["format", "min", "max"]);
+  const named = namedOptions("parse", options, ["format", "min", "max", ...AMOUNT_FIELDS]);
   const bounds = boundsOf(type, named);
+  const amount = amountOf(named);
   return bounds === undefined
-    ? numberOfWhole(text, type, named.format)
-    : numberWithin(text, type, named.format, bounds);
+    ? numberOfWhole(text, type, named.format, amount)
+    : numberWithin(text, type, named.format, amount, bounds);
 }
 
 export function parseFront(text, type, options) {
   const calls = ofTable(TYPES, "type", type);
-  const stop = calls.parseFront(text, formatOf("parseFront", options));
+  const named = areNamed(options)
+    ? namedOptions("parseFront", options, ["format", ...AMOUNT_FIELDS])
+    : { __proto__: null, format: options };
+  const amount = amountOf(named);
+  const stop = amount === undefined ? calls.parseFront(text, named.format) : calls.parseAmountFront(text, amount);
   return { value: calls.number(), stop };
 }
 

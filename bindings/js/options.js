@@ -50,7 +50,7 @@ export function outOfBounds(text, { min, max }) {
   const whole = typeof text === "string" ? text : decoder.decode(bytesOf(text).slice(0, TOLD + 1));
   const front = JSON.stringify(whole.slice(0, TOLD).replace(/[\ud800-\udbff]$/, "")).slice(1, -1);
   const given = whole.length > TOLD ? `${front}..` : front;
-  return new ParseError(["OutOfBounds", `${given} is not from ${min} to ${max}`], 0, { min, max });
+  return new ParseError(`${given} is not from ${min} to ${max}`, "OutOfBounds", 0, { min, max });
 }
 
 /** Whether a fault says that a number leaves its type. */

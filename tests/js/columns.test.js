@@ -55,6 +55,7 @@ test("a fault says in which field it is", () => {
     kind: "Overflow",
     place: 5,
     field: 1,
+    start: 3,
   });
 });
 
@@ -81,8 +82,9 @@ test("a text larger than a piece of the memory is read whole", () => {
   const text = lines.repeat(times);
   assert.deepEqual(parseColumn(text, "i32"), wanted);
   assert.deepEqual(parseColumn(text.slice(0, -1), "u64"), BigUint64Array.from(wanted, BigInt));
-  const fault = { kind: "InvalidDigit", place: text.length, field: 1000 * times };
-  assert.deepEqual(readColumn(`${text}x\n1`, "i32"), fault);
+  const fault = { kind: "InvalidDigit", place: text.length + 2, field: 1000 * times };
+  assert.deepEqual(readColumn(`${text}12x\n1`, "i32"), fault);
+  assert.throws(() => parseColumn(`${text}12x\n1`, "i32"), { start: text.length });
 });
 
 test("more numbers than the memory has room for are read", () => {

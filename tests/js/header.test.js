@@ -38,12 +38,12 @@ test("what is no header", () => {
   const quoted = { has_quotes: true };
   for (const text of ["", "\ufeff"]) assert.equal(names(text), "the table has no header");
   assert.equal(names("\n\n\n", { skips_empty_rows: true }), "the table has no header");
-  assert.equal(names('a,"b\nc\n', quoted), "misplaced quote at byte 2, in row 0, column 1");
-  assert.equal(names('a,b"c"\n', quoted), "misplaced quote at byte 3, in row 0, column 1");
-  assert.equal(names('\ufeffa,b""\n', quoted), "misplaced quote at byte 6, in row 0, column 1");
-  assert.equal(names("a,b\n", { has_returns: true }), "missing carriage return at byte 3, in row 0, column 2");
-  assert.equal(names("ab\n", { widths: [2, 1] }), "too few cells at byte 2, in row 0, column 1");
-  assert.equal(names("abcd\n", { widths: [2, 1] }), "too many cells at byte 3, in row 0, column 2");
+  assert.equal(names('a,"b\nc\n', quoted), 'line 1, column 2: "\\"b\\nc\\n": misplaced quote at byte 0 of the cell');
+  assert.equal(names('a,b"c"\n', quoted), 'line 1, column 2: "b\\"c\\"": misplaced quote at byte 1 of the cell');
+  assert.equal(names('\ufeffa,b""\n', quoted), 'line 1, column 2: "b\\"\\"": misplaced quote at byte 1 of the cell');
+  assert.equal(names("a,b\n", { has_returns: true }), "line 1: missing carriage return");
+  assert.equal(names("ab\n", { widths: [2, 1] }), "line 1: too few cells, none for column 2");
+  assert.equal(names("abcd\n", { widths: [2, 1] }), 'line 1, column 3: "d": too many cells');
   const long = "x".repeat(LONGEST_ROW + 1);
   assert.equal(names(`${long},a\n`), `the header has more than ${LONGEST_ROW} bytes`);
   assert.equal(names(`a,"${long}`, quoted),
@@ -66,6 +66,9 @@ test("names that are missing or stand twice", () => {
     'HeaderError: no column "cent": the header has "id", "cents", "id"');
   assert.equal(told("id,constructor\n", { toString: "u8" }),
     'HeaderError: no column "toString": the header has "id", "constructor"');
+  assert.equal(told("id;cents\n", { cents: "u8" }),
+    'HeaderError: no column "cents": the header has "id;cents"; separator may have to be ";"');
+  assert.equal(told("id cents\n", { cents: "u8" }), 'HeaderError: no column "cents": the header has "id cents"');
   const many = Array.from({ length: 1000 }, (_, index) => index).join();
   assert.match(told(many, { x: "u8" }), /^HeaderError: no column "x": the header has "0", .*, "39" and 960 more$/);
 });
@@ -94,7 +97,7 @@ test("a fault has its column's name", () => {
   const table = { header: true };
   assert.throws(() => parseTable("a,b\n,1\n,x\n", { b: "u8" }, table), {
     name: "ParseError",
-    message: 'invalid digit at byte 8, in row 1, column 1, "b"',
+    message: 'line 3, "b": "x": invalid digit at byte 0 of the cell',
     kind: "InvalidDigit",
     place: 8,
     row: 1,
@@ -116,8 +119,8 @@ test("a row that is too long tells an open quote", () => {
     }
   };
   assert.equal(told(`a,1\n"b",1\n"",2\n"""${long}`),
-    `RangeError: row 3 has more than ${LONGEST_ROW} bytes, and its quote at byte 15 isn't closed in them`);
-  assert.equal(told(`"a"${"b".repeat(LONGEST_ROW)}\n`), `RangeError: row 0 has more than ${LONGEST_ROW} bytes`);
+    `RangeError: the row at byte 15 has more than ${LONGEST_ROW} bytes, and its quote at byte 15 isn't closed in them`);
+  assert.equal(told(`"a"${"b".repeat(LONGEST_ROW)}\n`), `RangeError: the row at byte 0 has more than ${LONGEST_ROW} bytes`);
 });
 
 test("wrong arguments", () => {

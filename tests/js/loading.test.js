@@ -2,29 +2,13 @@
 import assert from "node:assert/strict";
 import { spawnSync } from "node:child_process";
 import { once } from "node:events";
-import { cpSync, mkdtempSync, readFileSync, rmSync, writeFileSync } from "node:fs";
-import { tmpdir } from "node:os";
+import { mkdirSync, readdirSync } from "node:fs";
 import { join } from "node:path";
-import { after, test } from "node:test";
-import { fileURLToPath, pathToFileURL } from "node:url";
+import { test } from "node:test";
 import { Worker } from "node:worker_threads";
 import { formats, parse } from "../../bindings/js/index.js";
+import { folder, loadWith, MODULE, PACKAGE, replacing } from "./copies.js";
 
-const PACKAGE = fileURLToPath(new URL("../../bindings/js", import.meta.url));
-const MODULE = readFileSync(join(PACKAGE, "jadvolni.wasm"));
-const folder = mkdtempSync(join(tmpdir(), "jadvolni-"));
-after(() => rmSync(folder, { recursive: true }));
-
-/** Loads a copy of the package, changed, with other bytes as its module, or without one. */
-function loadWith(name, bytes, change = () => {}) {
-  const copy = join(folder, name);
-  cpSync(PACKAGE, copy, { recursive: true });
-  const module = join(copy, "jadvolni.wasm");
-  if (bytes) writeFileSync(module, bytes);
-  else rmSync(module);
-  change(copy);
-  return import(pathToFileURL(join(copy, "index.js")));
-}
 
 test("a module that is missing, damaged or another is told", async () => {
   const other = Buffer.from("0061736d01000000", "hex"); // it exports nothing
@@ -44,28 +28,60 @@ test("a module that is missing, damaged or another is told", async () => {
 });
 
 test("an engine without 64-bit memories is told what it lacks", () => {
-  const code = `WebAssembly.validate = () => false;
-    await import(${JSON.stringify(new URL("../../bindings/js/index.js", import.meta.url).href)});`;
-  const { status, stderr } = spawnSync(process.execPath, ["--input-type=module", "-e", code], { encoding: "utf8" });
-  assert.notEqual(status, 0);
-  assert.match(stderr, /this engine has no 64-bit WebAssembly memory: .*Node from 20 with --experimental-wasm-memory64/);
+  const loading = `await import(${JSON.stringify(new URL("../../bindings/js/index.js", import.meta.url).href)});`;
+  const lacking = [`WebAssembly.validate = () => false; ${loading}`];
+  if (parseInt(process.versions.node) < 24) lacking.push(loading); // (which is not given the flag here)
+  for (const code of lacking) {
+    const words = ["--input-type=module", "-e", code];
+    const { status, stderr } = spawnSync(process.execPath, words, { encoding: "utf8", env: {} });
+    assert.notEqual(status, 0);
+    assert.match(stderr, /this engine has no 64-bit WebAssembly memory: .*from 20 with --experimental-wasm-memory64/);
+  }
+});
+
+const skip = spawnSync("npm", ["--version"]).status !== 0 && "there is no npm";
+
+test("a package that was packed needs nothing beside it", { skip }, () => {
+  const user = join(folder, "user");
+  const installed = join(user, "node_modules", "jadvolni");
+  mkdirSync(installed, { recursive: true });
+  const pack = ["pack", "--offline", "--no-update-notifier", "--silent", "--pack-destination", user];
+  const packed = spawnSync("npm", pack, { cwd: PACKAGE, encoding: "utf8" });
+  assert.equal(packed.status, 0, packed.stderr);
+  const archive = join(user, packed.stdout.trim().split("\n").at(-1));
+  assert.equal(spawnSync("tar", ["-xf", archive, "-C", installed, "--strip-components", "1"]).status, 0);
+  const files = readdirSync(installed);
+  const types = readdirSync(PACKAGE).filter((it) => it.endsWith(".d.ts"));
+  for (const file of ["jadvolni.wasm", "index.js", ...types]) assert.ok(files.includes(file), file);
+  const code = 'import { parse } from "jadvolni"; console.log(parse("12.50", "u16", { places: 2 }));';
+  const words = [...process.execArgv.filter((it) => it.includes("memory64")), "--input-type=module", "-e", code];
+  const { stdout, stderr } = spawnSync(process.execPath, words, { cwd: user, encoding: "utf8", env: {} });
+  assert.equal(stdout, "1250\n", stderr);
 });
 
 test("a module whose tables have another layout is told", async () => {
-  const others = [
+  const layout = [
     ["WORDS = 26", "WORDS = 28"], ["FIRST_ARRAY = 6", "FIRST_ARRAY = 4"], ["BITS = 24", "BITS = 22"],
     ['"i64", "u64"', '"u64", "i64"'], ['"u32", "i16"', '"i16", "u32"'], ['"i8", "u8"', '"u8", "i8"'],
     ["[0n, 0n, ...spans]", "[0n, ...spans]"], ["[mark, sizes]", "[sizes, mark]"],
     ['"skips_empty_rows", "is_records"', '"is_records", "skips_empty_rows"'],
-    ["tablePlace + 48", "tablePlace + 40"], ["[status, , column, , count,", "[status, , count, , column,"],
+    ['"is_records", "allows_returns"', '"allows_returns", "is_records"'],
+    ["tablePlace + 48", "tablePlace + 40"], ["[status, , column, , row,", "[status, , row, , column,"],
+    ["WORDS_OF_BAD_ROW = 16", "WORDS_OF_BAD_ROW = 12"],
+    ["row, , column, , place, , start]", "column, , row, , place, , start]"],
+    [", , place, , start]", ", , start, , place]"],
+    ["[status, , , , right, , badCount,", "[status, , , , badCount, , right,"],
   ];
+  const texts = [
+    ["WORDS_OF_TEXT = 6", "WORDS_OF_TEXT = 4"], ["words[at]", "words[at + 1]"], ["at + 2", "at + 3"],
+    ["at + 4", "at + 5"],
+  ];
+  const amounts = [["takes_fewer)], 32)", "takes_fewer)], 33)"]];
+  const others = Object.entries({ layout, texts, amounts }).flatMap(([file, edits]) =>
+    edits.map((edit) => [file, ...edit]));
   const message = /jadvolni\.wasm is of another version: its tables have another layout$/;
-  for (const [index, [ours, theirs]] of others.entries()) {
-    const loading = loadWith(`layout${index}`, MODULE, (copy) => {
-      const tables = readFileSync(join(copy, "tables.js"), "utf8");
-      assert.ok(tables.includes(ours), ours);
-      writeFileSync(join(copy, "tables.js"), tables.replace(ours, theirs));
-    });
+  for (const [index, [file, ours, theirs]] of others.entries()) {
+    const loading = loadWith(`layout${index}`, MODULE, replacing(`${file}.js`, ours, theirs));
     await assert.rejects(loading, { name: "JadvolniError", message }, theirs);
   }
 });
@@ -80,12 +96,20 @@ test("two copies have a memory each, and formats of their own", async () => {
 });
 
 test("what is put into all objects is no field", async () => {
-  const fields = { mantissa_radix: 16, separator: ";", may_miss: true };
+  const fields = {
+    mantissa_radix: 16, separator: ";", may_miss: true, places: 2, group: ",", allows_returns: true,
+    onError: "skip", errors: 1, tell: 1,
+  };
   Object.assign(Object.prototype, fields);
   try {
     const third = await loadWith("third", MODULE);
     assert.equal(third.parse("10", "u8", new third.Format()), 10);
+    assert.equal(third.parseFront("10", "u8", { format: new third.Format() }).value, 10);
     assert.deepEqual(third.parseTable("1,2", ["u8", "u8"]), [Uint8Array.of(1), Uint8Array.of(2)]);
+    assert.deepEqual(third.parseTable("1", [{ type: "u8" }], { header: false }), [Uint8Array.of(1)]);
+    assert.deepEqual([...third.parseTable("a", ["text"])[0]], ["a"]);
+    assert.deepEqual(third.parseColumn("1\n2", "u8"), Uint8Array.of(1, 2));
+    assert.deepEqual(third.parseColumn(" 1\n2", "u8", { allows_blanks: true }), Uint8Array.of(1, 2));
   } finally {
     for (const name of Object.keys(fields)) delete Object.prototype[name];
   }

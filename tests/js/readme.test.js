@@ -7,17 +7,26 @@ import * as jadvolni from "../../bindings/js/index.js";
 
 const PAGE = readFileSync(new URL("../../bindings/js/README.md", import.meta.url), "utf8");
 
+/** What an expression shows. */
 function shown(expression) {
   try {
-    const call = new Function(...Object.keys(jadvolni), `return ${expression}`);
-    return inspect(call(...Object.values(jadvolni)));
+    return inspect(expression());
   } catch (error) {
     return String(error);
   }
 }
 
 test("the examples of README", () => {
-  const examples = [...PAGE.matchAll(/^(\w+\(.*\)); \/\/ (.*)$/gm)];
-  assert.ok(examples.length > 7);
-  for (const [, expression, answer] of examples) assert.equal(shown(expression), answer);
+  let examples = 0;
+  const check = (expression, answer) => {
+    assert.equal(shown(expression), answer);
+    examples++;
+  };
+  for (const [, block] of PAGE.matchAll(/^```js\n([^]*?)^```$/gm)) {
+    const code = block.replace(/^import .*$/gm, "").replace(/^(\S.*); \/\/ (.*)$/gm, (_, expression, answer) =>
+      `check(() => ${expression}, ${JSON.stringify(answer)});`);
+    new Function("check", ...Object.keys(jadvolni), code)(check, ...Object.values(jadvolni));
+  }
+  assert.equal(examples, (PAGE.match(/^\S.*; \/\/ /gm) ?? []).length);
+  assert.ok(examples > 20);
 });

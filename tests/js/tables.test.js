@@ -93,7 +93,7 @@ test("each column has its format", () => {
   assert.deepEqual(parseTable("FF;-0x1F;7\n10;1_000;8", columns, { separator: ";" }), wanted);
   assert.throws(() => parseTable("FF;1;0x7", columns, { separator: ";" }), {
     name: "ParseError",
-    message: "invalid digit at byte 6, in row 0, column 2",
+    message: 'line 1, column 3: "0x7": invalid digit at byte 1 of the cell',
     kind: "InvalidDigit",
     place: 6,
     row: 0,
@@ -247,7 +247,7 @@ test("the longest row is read, and a longer one refused", () => {
   assert.deepEqual(parseTable(`1,2\n${longest}\n`, ["u8", "u8"]), [Uint8Array.of(1, 1), Uint8Array.of(2, 7)]);
   assert.throws(() => parseTable(`1,2\n0${longest}\n1,2\n`, ["u8", "u8"]), {
     name: "RangeError",
-    message: `row 1 has more than ${LONGEST_ROW} bytes`,
+    message: `the row at byte 4 has more than ${LONGEST_ROW} bytes`,
   });
 });
 
@@ -257,7 +257,7 @@ test("wrong arguments", () => {
   refuses(() => parseTable("1", new Map()), "columns have to be an array, or an object by names, and not Map");
   refuses(() => parseTable("1", { a: "u8" }), "columns by their names need a table with header: true");
   refuses(() => parseTable("1", ["u8"], { header: 1 }), /^header has to be true or false/);
-  refuses(() => parseTable("1", ["u128"]), /^type has to be one of u8, .*, i64, and not "u128"$/);
+  refuses(() => parseTable("1", ["u128"]), /^type has to be one of u8, .*, i64, text, and not "u128"$/);
   for (const column of [undefined, 8, {}]) refuses(() => parseTable("1", [column]), /^type has to be/);
   refuses(() => parseTable("1", [{ type: "u8", format: {} }]), /^format has to be a Format/);
   refuses(() => parseTable(1, ["u8"]), /^text has to be/);

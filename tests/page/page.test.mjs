@@ -370,7 +370,7 @@ test("a module that is missing or damaged is told", async () => {
   const folder = mkdtempSync(join(tmpdir(), "page-"));
   const page = await serve(folder);
   cpSync(join(PAGE, "index.html"), join(folder, "index.html"));
-  assert.match(await answerAt(page.address), /wasm can't be loaded: the server answers 404$/);
+  assert.match(await answerAt(page.address), /wasm can't be loaded: there is none\. /);
   writeFileSync(join(folder, "jadvolni.wasm"), "<!doctype html>");
   assert.match(await answerAt(page.address), /wasm can't be loaded: .*magic/);
   page.close();

@@ -1,0 +1,50 @@
+// Amounts: fixed-point numbers, in units of the last of so many places.
+
+import { byteOf, flagOf, told } from "./arguments.js";
+import { FormatError } from "./errors.js";
+import { bytesOfFormat, Format, STANDARD } from "./format.js";
+import { FORMAT, named, putFormat } from "./memory.js";
+
+/** What is told of amounts by its name, beside the format of their integer part. */
+export const AMOUNT_FIELDS = ["places", "point", "group", "takes_fewer"];
+
+const faultOf = named("jadvolni_fixed_error");
+
+/** What the integer part looks like: with a byte that may stand between two of its digits, if one was given. */
+function integerPart(format, group) {
+  if (group === undefined || group === null) return format;
+  const digit_separator = byteOf("group", group);
+  if (format.digit_separator !== null) {
+    throw new TypeError("group has to be left out where the format has a digit_separator");
+  }
+  return new Format({ ...format, digit_separator, integer_internal_digit_separator: true });
+}
+
+/** The byte before the fraction. The library takes 0 for a full stop, so that it can be no point. */
+function pointOf(point = ".") {
+  const byte = byteOf("point", point);
+  if (byte === 0) throw new TypeError("point has to be another byte than 0");
+  return byte;
+}
+
+/** How amounts are written, as the library has it: undefined where no places are given. */
+export function amountOf(given) {
+  const { places, point, group, takes_fewer, format = STANDARD } = given;
+  if (places === undefined) {
+    const other = AMOUNT_FIELDS.find((name) => given[name] !== undefined);
+    if (other !== undefined) throw new TypeError(`${other} has to be left out where there are no places`);
+    return undefined;
+  }
+  if (!Number.isInteger(places)) {
+    throw new TypeError(`places have to be an integer, and not ${told(places)}`);
+  }
+  bytesOfFormat(format);
+  const amount = new Uint8Array(48);
+  amount.set(bytesOfFormat(integerPart(format, group)));
+  // (places that are no byte are refused as too many are)
+  amount.set([pointOf(point), places === (places & 255) ? places : 255, flagOf("takes_fewer", takes_fewer)], 32);
+  putFormat(amount);
+  const status = faultOf(FORMAT);
+  if (status !== 0) throw new FormatError(status);
+  return amount;
+}

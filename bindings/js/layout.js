@@ -1,0 +1,123 @@
+// A table and its columns as the library has them, and its calls over those; jadvolni.h has the structs.
+
+import * as memory from "./memory.js";
+import { numbersPlace, PIECE } from "./pieces.js";
+import { WORDS_OF_TEXT } from "./texts.js";
+
+const { TEXT } = memory;
+const call = memory.named("jadvolni_parse_table");
+const callSkipping = memory.named("jadvolni_parse_table_skipping");
+const rowPlace = memory.named("jadvolni_row_place");
+
+// What a call is given and gives, behind the text: its answer, a table, its columns, the bytes that
+// stand for a missing number, the widths of cells, what is told of bad rows, and the columns' arrays.
+// A column is its format; two words on amounts; for each type the address of an array and its room;
+// those of where its texts stand; and those of its bits, which say where there is something.
+const tablePlace = numbersPlace + 48;
+const columnsPlace = tablePlace + 48;
+const WORDS = 26;
+const FIRST_ARRAY = 6;
+const BITS = 24;
+export const TYPES = ["i64", "u64", "i32", "u32", "i16", "u16", "i8", "u8", "text"];
+export const FLAGS = [
+  "has_returns", "has_quotes", "allows_blanks", "skips_empty_rows", "is_records", "allows_returns",
+];
+// What is told of a bad row, as words of 32 bits.
+const WORDS_OF_BAD_ROW = 16;
+
+const ANSWER = BigInt(numbersPlace);
+const TABLE = BigInt(tablePlace);
+const COLUMNS = BigInt(columnsPlace);
+const answer = new Uint32Array(memory.buffer, numbersPlace, 12);
+const tableBytes = new Uint8Array(memory.buffer, tablePlace, 48);
+const tableWords = new BigUint64Array(memory.buffer, tablePlace, 6);
+
+/** How many bytes a row has in the arrays of a column. */
+function sizeOf(read) {
+  if (read === null) return 0;
+  const size = read.NumberArray ? read.NumberArray.BYTES_PER_ELEMENT : 4 * WORDS_OF_TEXT;
+  return size + Number(read.mayMiss);
+}
+
+/** How many rows there is memory for. An array may begin some bytes behind the end of another. */
+function rowsOf(reads, missing, bad) {
+  const ofTable = 8 * (WORDS + 3) * reads.length + missing.length + 8;
+  const before = columnsPlace + ofTable + 4 * WORDS_OF_BAD_ROW * bad;
+  const size = reads.reduce((sum, read) => sum + sizeOf(read), 0);
+  const rows = Math.min(PIECE, Math.floor((memory.buffer.byteLength - before) / size));
+  if (rows < 1) throw new RangeError(`${reads.length} columns are more than there is memory for`);
+  return rows;
+}
+
+/** Gives arrays of the memory from a place on, one behind the other. */
+function arraysFrom(place) {
+  let next = place;
+  return (NumberArray, length) => {
+    const array = new NumberArray(memory.buffer, next, length);
+    next += Math.ceil(array.byteLength / 8) * 8;
+    return array;
+  };
+}
+
+/** Puts a column where calls find it, and answers its arrays. */
+function putColumn(words, read, rows, take) {
+  words.fill(0n);
+  if (read === null) return null;
+  new Uint8Array(words.buffer, words.byteOffset, 48).set(read.format);
+  const numbers = read.NumberArray ? take(read.NumberArray, rows) : take(Uint32Array, WORDS_OF_TEXT * rows);
+  words.set([BigInt(numbers.byteOffset), BigInt(rows)], FIRST_ARRAY + 2 * TYPES.indexOf(read.type));
+  if (!read.mayMiss) return { numbers };
+  const bits = take(Uint8Array, Math.ceil(rows / 8));
+  words.set([BigInt(bits.byteOffset), BigInt(bits.length)], BITS);
+  return { numbers, bits };
+}
+
+/**
+ * Puts a table and its columns where calls find them: the arrays of each, how many rows there is room
+ * for, and room to tell so many bad rows.
+ */
+export function putTable({ bytes, missing, widths }, reads, bad) {
+  const rows = rowsOf(reads, missing, bad);
+  const take = arraysFrom(columnsPlace);
+  const columns = reads.map(() => take(BigUint64Array, WORDS));
+  const mark = take(Uint8Array, missing.length);
+  mark.set(missing);
+  const sizes = take(BigUint64Array, widths.length);
+  sizes.set(widths);
+  const spans = [mark, sizes].flatMap((it) => [BigInt(it.byteOffset), BigInt(it.length)]);
+  tableWords.set([0n, 0n, ...spans]);
+  tableBytes.set(bytes);
+  const badRows = take(Uint32Array, WORDS_OF_BAD_ROW * bad);
+  const arrays = reads.map((read, index) => putColumn(columns[index], read, rows, take));
+  return { arrays, rows, badRows, count: BigInt(reads.length) };
+}
+
+/**
+ * Reads so many bytes of text up to the first bad row: how many rows there are, where reading stopped,
+ * and what is known of that bad row.
+ */
+export function rowsBeforeFault(size, isLast, { rows, count }) {
+  const length = BigInt(size);
+  call(ANSWER, TEXT, length, isLast, TABLE, BigInt(rows), COLUMNS, count);
+  const [status, , column, , row, , place] = answer;
+  if (status === 0) return { count: row, place, badCount: 0, bad: [] };
+  rowPlace(ANSWER, TEXT, length, TABLE, BigInt(row));
+  return { count: row, place, badCount: 1, bad: [{ status, row, column, place, start: answer[2] }] };
+}
+
+/** What is known of a bad row that a call has told. */
+function badRowAt(words, index) {
+  const [status, , , , , , row, , column, , place, , start] = words.subarray(WORDS_OF_BAD_ROW * index);
+  return { status, row, column, place, start };
+}
+
+/** The same of the right rows of so many bytes of text, and of the bad ones, as far as there is room. */
+export function rightRows(size, isLast, { rows, badRows, count }) {
+  const bad = badRows.length / WORDS_OF_BAD_ROW;
+  callSkipping(ANSWER, TEXT, BigInt(size), isLast, TABLE, BigInt(rows), COLUMNS, count,
+    BigInt(badRows.byteOffset), BigInt(bad));
+  const [status, , , , right, , badCount, , place] = answer;
+  if (status !== 0) throw memory.otherVersion("it refuses a table");
+  const told = Array.from({ length: Math.min(bad, badCount) }, (_, index) => badRowAt(badRows, index));
+  return { count: right, place, badCount, bad: told };
+}

@@ -1,0 +1,83 @@
+// The rows of a text, which go through memory piece by piece.
+
+import { endOfRow } from "./header.js";
+import { putTable, rightRows, rowsBeforeFault } from "./layout.js";
+import * as memory from "./memory.js";
+import { joined, PIECE } from "./pieces.js";
+import { joinedPlaces, placesOf, TextColumn } from "./texts.js";
+
+export const LONGEST_ROW = PIECE - 1; // and behind it the line feed
+
+// Where bad rows are told, a piece has so many bytes, and so no more bad rows.
+const WINDOW = 1 << 16;
+
+/** For each of so many rows 1 where there is something, and else 0. */
+function presentOf(bits, count) {
+  const present = new Uint8Array(count);
+  for (let row = 0; row < count; row++) present[row] = (bits[row >> 3] >> (row & 7)) & 1;
+  return present;
+}
+
+/** What a piece has left of a column. */
+function partOf({ numbers, bits }, { NumberArray }, count, before) {
+  const part = NumberArray ? { numbers: numbers.slice(0, count) } : placesOf(numbers, count, before);
+  return { ...part, present: bits && presentOf(bits, count) };
+}
+
+/** The parts of a column as one. */
+function columnOfParts(parts, read, bytes) {
+  if (read === null) return null;
+  const present = read.mayMiss ? joined(parts.map((part) => part.present), Uint8Array) : undefined;
+  if (!read.NumberArray) return new TextColumn(bytes, read.decoder, { ...joinedPlaces(parts), present });
+  const numbers = joined(parts.map((part) => part.numbers), read.NumberArray);
+  return present ? { numbers, present } : numbers;
+}
+
+/** The fault of a row that the memory has no room for. A quote may be why. */
+export function longRow(bytes, start, how, which) {
+  const { open } = endOfRow(bytes.subarray(0, start + PIECE), start, how);
+  const quote = open === undefined ? "" : `, and its quote at byte ${open} isn't closed in them`;
+  return new RangeError(`${which} has more than ${LONGEST_ROW} bytes${quote}`);
+}
+
+/** Reads a piece of so many bytes, if there are as many. The table is put anew: who was told of errors may
+ * have read others. */
+function readPiece(bytes, start, most, reads, how) {
+  const laid = putTable(how, reads, how.tell ? WINDOW : 0);
+  const size = memory.putBytes(bytes.subarray(start, start + most));
+  const isLast = Number(start + size === bytes.length);
+  const found = how.skips ? rightRows(size, isLast, laid) : rowsBeforeFault(size, isLast, laid);
+  return { ...found, arrays: laid.arrays };
+}
+
+/** Reads the rows of the next piece. One of more bytes than a window is a piece by itself. */
+function readNext(bytes, start, reads, how) {
+  const found = readPiece(bytes, start, how.tell ? WINDOW : PIECE, reads, how);
+  if (found.place > 0 || found.badCount > 0) return found;
+  const size = endOfRow(bytes.subarray(0, start + PIECE + 1), start, how).stop - start;
+  if (size > PIECE) throw longRow(bytes, start, how, `the ${how.unit} at byte ${start}`);
+  return readPiece(bytes, start, size, reads, how);
+}
+
+/**
+ * The columns of a text's rows from a place on, and how many bad rows were skipped. Where they aren't, the
+ * error of the first one is thrown. `errorOf` makes the errors.
+ */
+export function readRows(bytes, first, reads, how, errorOf) {
+  const { length } = bytes;
+  const parts = reads.map(() => []);
+  let [start, row, badRows] = [first, 0, 0];
+  while (start < length) {
+    const { arrays, bad, badCount, count, place } = readNext(bytes, start, reads, how);
+    const errors = bad.map((it) =>
+      errorOf({ ...it, row: row + it.row, place: start + it.place, start: start + it.start }));
+    if (!how.skips && errors.length > 0) throw errors[0];
+    arrays.forEach((array, index) => array && parts[index].push(partOf(array, reads[index], count, start)));
+    start += place;
+    row += count + badCount;
+    badRows += badCount;
+    for (const error of errors) how.tell(error);
+    if (bytes.length !== length) throw memory.lostBytes();
+  }
+  return { columns: reads.map((read, index) => columnOfParts(parts[index], read, bytes)), badRows };
+}
