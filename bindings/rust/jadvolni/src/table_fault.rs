@@ -3,7 +3,7 @@
 #[cfg(feature = "std")]
 extern crate std;
 
-use crate::cells::{cells_of, content_of_row};
+use crate::cells::{content_of_row, put_cells, CellPlace};
 use crate::row_ends::RowEnds;
 use crate::{Dialect, Error, Excerpt, Position, TableError};
 use core::fmt;
@@ -62,12 +62,16 @@ impl Cell {
         if matches!(error.error, Error::TooFewCells(_) | Error::MissingReturn(_)) {
             return None;
         }
+        let mut found = [CellPlace::default()];
+        if put_cells(row, dialect, error.column, &mut found) <= error.column {
+            return None;
+        }
+        let [CellPlace { start, size }] = found;
         let content = content_of_row(row, dialect);
-        // Behind the cells of given widths stands what is too much.
-        let behind = place.min(content.len())..content.len();
-        let found = cells_of(content, dialect).nth(error.column).unwrap_or(behind);
-        let place = place.checked_sub(found.start).filter(|place| *place <= found.len())?;
-        Some(Cell { text: Excerpt::of(&content[found]), place })
+        // A quote that nothing closes takes what ends its row, which isn't told.
+        let text = &content[start.min(content.len())..(start + size).min(content.len())];
+        let place = place.checked_sub(start).filter(|place| *place <= text.len())?;
+        Some(Cell { text: Excerpt::of(text), place })
     }
 }
 
