@@ -28,3 +28,10 @@ pub(crate) fn put_cells(
     unsafe { sys::jadvolni_row_cells(bytes, len, &dialect.0, first, cells.as_mut_ptr(), room) }
         .count
 }
+
+/// The bytes of a cell of a row. What ends the row is none of them, also where a quote that nothing closes takes it.
+pub(crate) fn cell_of<'t>(row: &'t [u8], place: CellPlace, dialect: &Dialect<'_>) -> &'t [u8] {
+    let content = content_of_row(row, dialect);
+    let stop = content.len().min(place.start + place.size);
+    &content[place.start.min(stop)..stop]
+}

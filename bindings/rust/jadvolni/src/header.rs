@@ -3,7 +3,7 @@
 extern crate std;
 
 use crate::cell_text::folded;
-use crate::cells::{content_of_row, put_cells, CellPlace};
+use crate::cells::{cell_of, content_of_row, put_cells, CellPlace};
 use crate::row_ends::RowEnds;
 use crate::{
     parse_table, parse_table_skipping, row_place, BadRow, Dialect, Skipping, Table, TableColumn,
@@ -161,8 +161,8 @@ impl Header {
         let mut unread: Vec<_> = (0..columns).map(|_| TableColumn::UNREAD).collect();
         // The library judges the row by its own rules.
         parse_table(row, dialect, &mut unread).map_err(HeaderError::Invalid)?;
-        let bytes = |cell: &CellPlace| &row[cell.start..][..cell.size];
-        let names = cells.iter().map(|cell| name_of(bytes(cell), dialect)).collect();
+        let name = |cell| name_of(cell_of(row, cell, dialect), dialect);
+        let names = cells.into_iter().map(name).collect();
         Ok(Header { names, stop: row.len() })
     }
 

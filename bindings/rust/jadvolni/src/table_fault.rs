@@ -3,7 +3,7 @@
 #[cfg(feature = "std")]
 extern crate std;
 
-use crate::cells::{content_of_row, put_cells, CellPlace};
+use crate::cells::{cell_of, put_cells, CellPlace};
 use crate::row_ends::RowEnds;
 use crate::{Dialect, Error, Excerpt, Position, TableError};
 use core::fmt;
@@ -66,11 +66,8 @@ impl Cell {
         if put_cells(row, dialect, error.column, &mut found) <= error.column {
             return None;
         }
-        let [CellPlace { start, size }] = found;
-        let content = content_of_row(row, dialect);
-        // A quote that nothing closes takes what ends its row, which isn't told.
-        let text = &content[start.min(content.len())..(start + size).min(content.len())];
-        let place = place.checked_sub(start).filter(|place| *place <= text.len())?;
+        let text = cell_of(row, found[0], dialect);
+        let place = place.checked_sub(found[0].start).filter(|place| *place <= text.len())?;
         Some(Cell { text: Excerpt::of(text), place })
     }
 }
