@@ -29,7 +29,7 @@ import time
 from dataclasses import dataclass
 from pathlib import Path
 from types import ModuleType
-from typing import Callable, Iterable, Sequence
+from typing import Any, Callable, Iterable, Optional, Sequence
 
 import drivers
 import page
@@ -46,8 +46,10 @@ Cell = int | str | None
 Number = Callable[[random.Random], int]
 Draw = Callable[[random.Random], Cell]
 # What reads a text: it gives blocks, each of which has its columns.
-Reader = Callable[[], Iterable[Iterable[Iterable[int]]]]
+Reader = Callable[[], Iterable[Iterable[Iterable[object]]]]
 Readers = dict[str, Reader]
+# Python's readers of a text, by the binding and by others.
+ReadersOf = Callable[[ModuleType, bytes], Readers]
 Seen = dict[str, dict[str, float]]
 
 
@@ -56,12 +58,15 @@ class Text:
     """A text that is read: what draws the cells of each column, and how they are written.
 
     The drivers in C++ know that by the word `kind`. All other readers know the plain one alone,
-    which has no word."""
+    which has no word, unless the text has readers of its own. `shows` writes the cells of each
+    column, if they aren't written as they are drawn."""
 
     columns: Sequence[Draw]
     kind: str = ""
     end: str = "\n"
     quote: str = ""
+    shows: Sequence[Callable[[Any], str]] = ()
+    readers: Optional[ReadersOf] = None
 
     def drawn(self, asked: page.Asked) -> list[list[Cell]]:
         """The cells of each column."""
@@ -72,10 +77,14 @@ class Text:
         """What a driver is asked: to read such a text so often."""
         return [str(rounds), *self.kind.split()]
 
+    def show(self, cell: Cell) -> str:
+        """A cell as it is drawn."""
+        return f"{self.quote}{'' if cell is None else cell}{self.quote}"
+
     def written(self, cells: list[list[Cell]]) -> bytes:
         """The text of such columns."""
-        shown = [[f"{self.quote}{'' if cell is None else cell}{self.quote}" for cell in column]
-                 for column in cells]
+        shows = self.shows or [self.show] * len(cells)
+        shown = [map(show, column) for show, column in zip(shows, cells)]
         return "".join(",".join(row) + self.end for row in zip(*shown)).encode()
 
 
@@ -146,7 +155,7 @@ def binding(folder: str) -> ModuleType:
     return importlib.import_module("jadvolni")
 
 
-def least_time(read: Reader, count: int, rounds: int) -> float:
+def least_time(read: Callable[[], object], count: int, rounds: int) -> float:
     """Nanoseconds a number."""
     least = float("inf")
     for _ in range(rounds):
@@ -238,8 +247,7 @@ def write(kind: str, seen: Seen, asked: page.Asked, lacking: list[str], about: s
 
 
 def measure(kind: str, asked: page.Asked, sets: dict[str, Text],
-            readers_of: Callable[[ModuleType, bytes], Readers], packages: list[str],
-            about: str) -> None:
+            readers_of: ReadersOf, packages: list[str], about: str) -> None:
     """Measures all readers of such texts, and writes what it sees and which it lacks."""
     seen: Seen = {}
     with tempfile.TemporaryDirectory() as folder:
@@ -251,7 +259,9 @@ def measure(kind: str, asked: page.Asked, sets: dict[str, Text],
             seen[name] = timed(programs, words, text, total)
             if not how.kind:
                 seen[name] |= timed(in_rust, words, text, total)
-                seen[name] |= timed_in_python(readers_of(jadvolni, text), cells, asked.rounds)
+            if how.readers or not how.kind:
+                in_python = (how.readers or readers_of)(jadvolni, text)
+                seen[name] |= timed_in_python(in_python, cells, asked.rounds)
             print("\n".join(lines_of({name: seen[name]})), flush=True)
     write(kind, seen, asked, [name for name in packages if not is_installed(name)], about)
 
@@ -274,8 +284,7 @@ def compare(kind: str, asked: page.Asked, sets: dict[str, Text]) -> None:
 
 
 def run(kind: str, asked: page.Asked, sets: dict[str, Text],
-        readers_of: Callable[[ModuleType, bytes], Readers], packages: list[str],
-        about: str) -> int:
+        readers_of: ReadersOf, packages: list[str], about: str) -> int:
     """Measures such texts, or compares two checkouts over them, as it is asked."""
     page.need("make", "cc", "c++")
     if asked.against:

@@ -58,6 +58,7 @@ class Asked:
     seed: int
     load: float
     against: str = ""
+    megabytes: int = 0
 
     def measured_on(self) -> str:
         """What a page says of this: the day, the machine and what was asked for."""
@@ -66,16 +67,19 @@ class Asked:
                 f"{self.size} {self.unit}, seed {self.seed}, {self.rounds} rounds.")
 
 
-def asked(about: str, unit: str, size: int, rounds: int, compares: bool = False) -> Asked:
+def asked(about: str, unit: str, size: int, rounds: int, compares: bool = False,
+          has_files: bool = False) -> Asked:
     """What the command line asks of a script, which else reads so many units so often. One that
-    compares may be asked for another checkout."""
+    compares may be asked for another checkout, and one that has files for the size of one."""
     parser = options(about, rounds)
     parser.add_argument(f"--{unit}", type=positive, default=size, help=f"{unit} of a text")
     if compares:
         parser.add_argument("--against", default="", help="another built checkout")
+    if has_files:
+        parser.add_argument("--megabytes", type=positive, default=0, help="read a file, by blocks")
     found = parser.parse_args()
     return Asked(unit, getattr(found, unit), found.rounds, found.seed, os.getloadavg()[0],
-                 found.against if compares else "")
+                 found.against if compares else "", found.megabytes if has_files else 0)
 
 
 def table(head: list[str], rows: list[list[str]]) -> list[str]:

@@ -783,6 +783,13 @@ jadvolni_position jadvolni_line_column(const char *text, size_t len, size_t plac
  * A table isn't one column: between ',' the text "1,2\n3,4" has the field "2\n3". Hand over a line
  * at a time.
  *
+ * RETURNS, BLANKS, MISSING NUMBERS AND AMOUNTS are for tables, and a table of one column reads them of
+ * lines. With '\n' as its separator no byte parts cells:
+ *
+ *     jadvolni_table lines = {.separator = '\n', .allows_returns = 1, .allows_blanks = 1};
+ *     jadvolni_table_column cents = {.places = 2, .i64 = {values, 1000}, .present = {bits, 125}};
+ *     jadvolni_table_result r = jadvolni_parse_table(text, len, true, &lines, 1000, &cents, 1);
+ *
  * A FILE IN BLOCKS. The end of a text ends its last field, so a file that is handed over block by
  * block GIVES WRONG NUMBERS, WITH JADVOLNI_OK: "12" and "34\n" are 12 and 34, where the file has 1234.
  * Hand over whole lines, and keep what follows the last line feed for the next block:

@@ -447,7 +447,8 @@ private:
 
 // The numbers of the text's fields between a separator, which may be any byte, read into an array, as
 // far as it has room. The numbers before a fault stand, and the rest of the array is as it was.
-// Of a file that is read in blocks hand each to parse_column_part.
+// Of a file that is read in blocks hand each to parse_column_part. Lines with returns, blanks, missing numbers or
+// fixed-point numbers are for the parse_column of jadvolni_tables.hpp, which takes a table and a column.
 template <class T>
 [[nodiscard]] column_result parse_column(std::string_view text, char separator, T *values,
                                    std::size_t capacity, const format &under = standard) noexcept
@@ -546,8 +547,8 @@ std::from_chars_result from_chars(const char *first, const char *last, T &value,
 
 } // namespace jadvolni
 
-// The rest of it, in an order in which each has what it stands on.
-#define JADVOLNI_HPP_
+// The rest of it, in an order in which each has what it stands on. Each includes this header first: so one that is
+// included alone comes here in its turn, and is empty behind that.
 #include "jadvolni_tables.hpp"
 
 #include "jadvolni_faults.hpp"

@@ -1,9 +1,8 @@
-// jadvolni_blocks.hpp - tables of any size, block by block. It is a part of jadvolni.hpp, which includes it.
-#pragma once
+// jadvolni_blocks.hpp - tables of any size, block by block. It is a part of jadvolni.hpp.
+#include "jadvolni.hpp"
 
-#ifndef JADVOLNI_HPP_
-#error "include jadvolni.hpp, of which this is a part"
-#endif
+#ifndef JADVOLNI_BLOCKS_HPP_
+#define JADVOLNI_BLOCKS_HPP_
 
 #include <cstring>
 
@@ -375,3 +374,5 @@ private:
 };
 
 } // namespace jadvolni
+
+#endif

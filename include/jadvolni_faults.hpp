@@ -1,10 +1,9 @@
 // jadvolni_faults.hpp - what a text tells of a fault of its table: the line, the row, and the cell. It is a part of
-// jadvolni.hpp, which includes it.
-#pragma once
+// jadvolni.hpp.
+#include "jadvolni.hpp"
 
-#ifndef JADVOLNI_HPP_
-#error "include jadvolni.hpp, of which this is a part"
-#endif
+#ifndef JADVOLNI_FAULTS_HPP_
+#define JADVOLNI_FAULTS_HPP_
 
 namespace jadvolni {
 
@@ -334,3 +333,5 @@ private:
 };
 
 } // namespace jadvolni
+
+#endif

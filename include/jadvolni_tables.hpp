@@ -1,9 +1,8 @@
-// jadvolni_tables.hpp - tables, each column into an array of its own. It is a part of jadvolni.hpp, which includes it.
-#pragma once
+// jadvolni_tables.hpp - tables, each column into an array of its own. It is a part of jadvolni.hpp.
+#include "jadvolni.hpp"
 
-#ifndef JADVOLNI_HPP_
-#error "include jadvolni.hpp, of which this is a part"
-#endif
+#ifndef JADVOLNI_TABLES_HPP_
+#define JADVOLNI_TABLES_HPP_
 
 namespace jadvolni {
 
@@ -254,6 +253,36 @@ template <class Columns>
     return parse_table_part(text, true, how, capacity, columns);
 }
 
+namespace detail {
+
+// How many rows a column has room for, if it is read.
+inline std::size_t room_of(const table_column &column) noexcept
+{
+    std::size_t room = column.text.capacity;
+    for (auto capacity : {column.u8.capacity, column.i8.capacity, column.u16.capacity, column.i16.capacity,
+                          column.u32.capacity, column.i32.capacity, column.u64.capacity, column.i64.capacity})
+        if (capacity != 0) room = capacity;
+    const auto bytes = column.present.size;
+    return bytes == 0 || bytes > room / 8 ? room : bytes * 8;
+}
+
+} // namespace detail
+
+// The numbers of a text's lines as the one column of a table, as far as its array and its bits have room: with the
+// returns, the blanks and the missing numbers of the table, and the format or the fixed-point numbers of the column.
+// With '\n' as the table's separator no byte parts cells. The numbers before a fault stand.
+//
+//     jadvolni::table lines{};
+//     lines.separator = '\n', lines.allows_returns = 1;
+//     auto cents = jadvolni::column_into(values, amount); // of a jadvolni::fixed
+//     cents.present = {bits.data(), bits.size()};
+//     auto read = jadvolni::parse_column(text, lines, cents);
+[[nodiscard]] inline column_result parse_column(std::string_view text, const table &how, table_column column) noexcept
+{
+    auto read = detail::read_table(text, true, how, detail::room_of(column), &column, 1);
+    return {read.rows(), {static_cast<std::uint32_t>(read.status()), read.place()}};
+}
+
 // A row at fault: its number, where its fault is and what, and where the row starts and stops.
 using bad_row = jadvolni_bad_row;
 
@@ -338,3 +367,5 @@ template <class Columns, class Bad>
 }
 
 } // namespace jadvolni
+
+#endif

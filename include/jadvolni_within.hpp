@@ -1,10 +1,9 @@
 // jadvolni_within.hpp - numbers within bounds, with one fault that says the bounds and what was given. It is a part of
-// jadvolni.hpp, which includes it.
-#pragma once
+// jadvolni.hpp.
+#include "jadvolni.hpp"
 
-#ifndef JADVOLNI_HPP_
-#error "include jadvolni.hpp, of which this is a part"
-#endif
+#ifndef JADVOLNI_WITHIN_HPP_
+#define JADVOLNI_WITHIN_HPP_
 
 namespace jadvolni {
 
@@ -117,3 +116,5 @@ template <class T>
 }
 
 } // namespace jadvolni
+
+#endif

@@ -298,22 +298,75 @@ bool answer_skipping(const Case &asked) {
     return true;
 }
 
-// A table as a bank exports it: a number of the case's type, a text, and a fixed-point number.
-bool answer_export(const Case &asked) {
+// What the cells of a column have: numbers of the case's type, texts, or fixed-point numbers of the type.
+enum class Cells { numbers, texts, amounts };
+
+// That of a column, by the call. A bank's export has one of each.
+Cells cells_of(const Case &asked, std::size_t index) {
+    if (asked.call == "jadvolni_parse_texts") return Cells::texts;
+    if (asked.call == "jadvolni_parse_amounts") return Cells::amounts;
+    return index == 1 ? Cells::texts : index == 2 ? Cells::amounts : Cells::numbers;
+}
+
+// The columns of a table whose cells aren't all numbers.
+class MixedColumns : public Columns {
+public:
+    explicit MixedColumns(const Case &asked)
+        : Columns(asked), texts_(asked.how.columns, std::vector<jadvolni_cell_text>(asked.how.rows)) {
+        for (std::size_t index = 0; index < texts_.size(); index++) {
+            jadvolni_table_column &column = all()[index];
+            Cells cells = cells_of(asked, index);
+            if (cells == Cells::texts) {
+                auto present = column.present;
+                column = {};
+                column.text = {texts_[index].data(), texts_[index].size()};
+                column.present = present;
+            } else if (cells == Cells::amounts) {
+                column.point = static_cast<std::uint8_t>(asked.how.point);
+                column.places = static_cast<std::uint8_t>(asked.how.places);
+                column.takes_fewer = asked.how.fewer != 0;
+            }
+        }
+    }
+
+    // The text of the first row of a column.
+    const jadvolni_cell_text &first(std::size_t index) const { return texts_[index][0]; }
+
+private:
+    std::vector<std::vector<jadvolni_cell_text>> texts_;
+};
+
+bool answer_mixed(const Case &asked) {
     const How &how = asked.how;
-    Columns columns(asked);
-    std::vector<jadvolni_cell_text> texts(how.rows);
+    MixedColumns columns(asked);
     auto &all = columns.all();
-    all[1] = {};
-    all[1].text = {texts.data(), texts.size()};
-    all[2].point = static_cast<std::uint8_t>(how.point);
-    all[2].places = static_cast<std::uint8_t>(how.places);
-    all[2].takes_fewer = how.fewer != 0;
+    const jadvolni_cell_text &first = columns.first(all.size() / 2);
     jadvolni_table table = table_of(how, {});
     count(asked, [&](const char *text, std::size_t size, Seen &seen) {
         jadvolni_table_result found =
             jadvolni_parse_table(text, size, !how.is_part, &table, how.rows, all.data(), all.size());
-        seen.places += found.rows + found.column + found.place + texts[0].start + texts[0].size;
+        seen.places += found.rows + found.column + found.place + first.start + first.size;
+        seen.faults += found.status;
+    });
+    return true;
+}
+
+// The suffixes of C and of Rust, with those types that these have on most machines.
+const jadvolni_suffix suffixes[] = {
+    JADVOLNI_SUFFIX("", JADVOLNI_TYPE_I32),     JADVOLNI_SUFFIX("U", JADVOLNI_TYPE_U32),
+    JADVOLNI_SUFFIX("L", JADVOLNI_TYPE_I64),    JADVOLNI_SUFFIX("UL", JADVOLNI_TYPE_U64),
+    JADVOLNI_SUFFIX("u8", JADVOLNI_TYPE_U8),    JADVOLNI_SUFFIX("u32", JADVOLNI_TYPE_U32),
+    JADVOLNI_SUFFIX("i64", JADVOLNI_TYPE_I64),  JADVOLNI_SUFFIX("usize", JADVOLNI_TYPE_USIZE),
+};
+
+bool answer_typed_literal(const Case &asked) {
+    count(asked, [&](const char *text, std::size_t size, Seen &seen) {
+        jadvolni_uint128 number{};
+        std::size_t suffix = 0, entry = 0;
+        jadvolni_result found = jadvolni_parse_typed_literal(text, size, &asked.format, suffixes,
+                                                             std::size(suffixes), &number, &suffix, &entry);
+        seen.numbers += number.low;
+        seen.places += found.place + suffix + entry;
         seen.faults += found.status;
     });
     return true;
@@ -339,7 +392,10 @@ bool answer_line_column(const Case &asked) {
 
 bool answer_new(const Case &asked) {
     if (asked.call == "jadvolni_parse_table_skipping") return answer_skipping(asked);
-    if (asked.call == "jadvolni_parse_export") return answer_export(asked);
+    if (asked.call == "jadvolni_parse_export" || asked.call == "jadvolni_parse_texts"
+        || asked.call == "jadvolni_parse_amounts")
+        return answer_mixed(asked);
+    if (asked.call == "jadvolni_parse_typed_literal") return answer_typed_literal(asked);
     if (asked.call == "jadvolni_row_place") return answer_row_place(asked);
     if (asked.call == "jadvolni_line_column") return answer_line_column(asked);
     return answer_fixed(asked);

@@ -9,6 +9,7 @@ There are 1 to 255 threads.
 import os
 import sys
 
+import command
 import jadvolni
 
 
@@ -30,34 +31,28 @@ def read_file(path: str, threads: int):
     return answer.tolist()
 
 
+def told(path: str, threads: int) -> str:
+    """What the command says."""
+    numbers = read_file(path, threads)
+    return f"{len(numbers)} numbers, sum {sum(numbers)}"
+
+
 def threads_of(words) -> int:
-    """How many threads the command line asks for. ValueError where it asks for none."""
-    threads = jadvolni.parse(words[2], "u8") if len(words) > 2 else len(os.sched_getaffinity(0))
-    if len(words) not in (2, 3) or threads == 0:
-        raise ValueError
-    return threads
+    """How many threads the command line asks for, and 0 where it is wrong."""
+    if len(words) not in (2, 3):
+        return 0
+    try:
+        return jadvolni.parse(words[2], "u8") if len(words) > 2 else len(os.sched_getaffinity(0))
+    except jadvolni.ParseError:
+        return 0
 
 
-def main() -> int:
+def main() -> None:
     """The command line."""
-    try:
-        threads = threads_of(sys.argv)
-    except ValueError:
-        print(__doc__.strip(), file=sys.stderr)
-        return 2
-    try:
-        numbers = read_file(sys.argv[1], threads)
-    except OSError as error:
-        print(f"{sys.argv[1]}: {error.strerror}", file=sys.stderr)
-        return 1
-    except ValueError as error:
-        print(f"{sys.argv[1]}: {error}", file=sys.stderr)
-        return 1
-    if sys.stdout is None:
-        sys.exit("standard output is closed")
-    print(f"{len(numbers)} numbers, sum {sum(numbers)}")
-    return 0
+    threads = threads_of(sys.argv)
+    command.ask(threads > 0, __doc__)
+    command.tell(sys.argv[1], lambda path: told(path, threads))
 
 
 if __name__ == "__main__":
-    sys.exit(main())
+    main()

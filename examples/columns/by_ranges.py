@@ -11,6 +11,7 @@ ends first.
 import os
 import sys
 
+import command
 import jadvolni
 
 CELLS = {"day": "u16", "name": None, "cents": jadvolni.Column("i64", may_miss=True)}
@@ -103,33 +104,29 @@ def by_workers(client):
 
 
 def size_of(words) -> int:
-    """How many bytes the command line asks for. ValueError where it asks for none."""
-    size = jadvolni.parse(words[2], "u64", min=1) if len(words) > 2 else 1 << 26
+    """How many bytes the command line asks for, and 0 where it is wrong."""
     if len(words) not in (2, 3):
-        raise ValueError
-    return size
+        return 0
+    try:
+        return jadvolni.parse(words[2], "u64") if len(words) > 2 else 1 << 26
+    except jadvolni.ParseError:
+        return 0
+
+
+def told(path: str, size: int) -> str:
+    """What the command says."""
+    from distributed import Client
+
+    with Client(threads_per_worker=1, dashboard_address=None) as client:
+        found = total(by_workers(client), os.path.abspath(path), size)
+    return f"{found['rows']} rows, {found['known']} with cents, sum {found['sum']}"
 
 
 def main() -> None:
     """The command line."""
-    try:
-        size = size_of(sys.argv)
-    except ValueError:
-        print(__doc__.strip(), file=sys.stderr)
-        sys.exit(2)
-    path = os.path.abspath(sys.argv[1])
-    from distributed import Client
-
-    try:
-        with Client(threads_per_worker=1, dashboard_address=None) as client:
-            found = total(by_workers(client), path, size)
-    except OSError as error:
-        sys.exit(f"{sys.argv[1]}: {error.strerror}")
-    except ValueError as error:
-        sys.exit(f"{sys.argv[1]}: {error}")
-    if sys.stdout is None:
-        sys.exit("standard output is closed")
-    print(f"{found['rows']} rows, {found['known']} with cents, sum {found['sum']}")
+    size = size_of(sys.argv)
+    command.ask(size > 0, __doc__)
+    command.tell(sys.argv[1], lambda path: told(path, size))
 
 
 if __name__ == "__main__":

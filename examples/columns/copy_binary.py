@@ -12,6 +12,7 @@ pipe them into psql all the same: COPY asks for no end, and would load what a ki
 import struct
 import sys
 
+import command
 import jadvolni
 
 CELLS = {"day": "u16", "name": None, "cents": jadvolni.Column("i64", may_miss=True)}
@@ -50,22 +51,17 @@ def write(block: bytes) -> None:
         sys.exit(f"standard output: {error.strerror}")
 
 
+def copy(path: str) -> None:
+    """Writes what a file has."""
+    with open(path, "rb") as file:
+        for block in copied(file):
+            write(block)
+
+
 def main() -> None:
     """The command line."""
-    if len(sys.argv) != 2:
-        print(__doc__.strip(), file=sys.stderr)
-        sys.exit(2)
-    path = sys.argv[1]
-    try:
-        with open(path, "rb") as file:
-            for block in copied(file):
-                write(block)
-    except jadvolni.ParseError as error:
-        sys.exit(str(error))
-    except OSError as error:
-        sys.exit(f"{path}: {error.strerror}")
-    except ValueError as error:
-        sys.exit(f"{path}: {error}")
+    command.ask(len(sys.argv) == 2, __doc__)
+    command.tell(sys.argv[1], copy)
 
 
 if __name__ == "__main__":

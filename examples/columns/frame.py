@@ -7,27 +7,23 @@ CENTS may be empty, and is then missing: NA, and no 0. The first wrong cell is t
 
 import sys
 
+import command
 import jadvolni
 
 CELLS = {"day": "u16", "name": None, "cents": jadvolni.Column("i64", may_miss=True)}
 
 
+def told(path: str) -> str:
+    """What the command says."""
+    frame = jadvolni.read_table(path, CELLS, ";").to_pandas()
+    cents = frame["cents"]
+    return f"{len(frame)} rows, {cents.isna().sum()} without cents, {cents.min()} to {cents.max()}"
+
+
 def main() -> None:
     """The command line."""
-    if len(sys.argv) != 2:
-        print(__doc__.strip(), file=sys.stderr)
-        sys.exit(2)
-    path = sys.argv[1]
-    try:
-        frame = jadvolni.read_table(path, CELLS, ";").to_pandas()
-    except jadvolni.ParseError as error:
-        sys.exit(str(error))
-    except OSError as error:
-        sys.exit(f"{path}: {error.strerror}")
-    cents = frame["cents"]
-    if sys.stdout is None:
-        sys.exit("standard output is closed")
-    print(f"{len(frame)} rows, {cents.isna().sum()} without cents, {cents.min()} to {cents.max()}")
+    command.ask(len(sys.argv) == 2, __doc__)
+    command.tell(sys.argv[1], told)
 
 
 if __name__ == "__main__":

@@ -8,6 +8,7 @@ line feed.
 
 import sys
 
+import command
 import jadvolni
 
 CELLS = {"name": None, "cents": "i64"}
@@ -21,21 +22,8 @@ def total(path: str) -> int:
 
 def main() -> None:
     """The command line."""
-    if len(sys.argv) != 2:
-        print(__doc__.strip(), file=sys.stderr)
-        sys.exit(2)
-    path = sys.argv[1]
-    try:
-        found = total(path)
-    except jadvolni.ParseError as error:
-        sys.exit(str(error))
-    except OSError as error:
-        sys.exit(f"{path}: {error.strerror}")
-    except ValueError as error:
-        sys.exit(f"{path}: {error}")
-    if sys.stdout is None:
-        sys.exit("standard output is closed")
-    print(found)
+    command.ask(len(sys.argv) == 2, __doc__)
+    command.tell(sys.argv[1], total)
 
 
 if __name__ == "__main__":

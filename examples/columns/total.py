@@ -10,6 +10,7 @@ import contextlib
 import os
 import sys
 
+import command
 import jadvolni
 
 
@@ -26,32 +27,22 @@ def bar_of(file):
         yield bar.update
 
 
-def total(path: str):
-    """How many numbers a file has, and their sum."""
+def total(path: str) -> str:
+    """How many numbers a file has, and their sum. ValueError has the first wrong line."""
     count, found = 0, 0
-    with open(path, "rb") as file, bar_of(file) as progress:
-        for numbers in jadvolni.iter_column(file, "i64", progress=progress):
-            count, found = count + len(numbers), found + sum(numbers)
-    return count, found
+    try:
+        with open(path, "rb") as file, bar_of(file) as progress:
+            for numbers in jadvolni.iter_column(file, "i64", progress=progress):
+                count, found = count + len(numbers), found + sum(numbers)
+    except jadvolni.ParseError as error:
+        raise ValueError(f"line {error.field + 1}, byte {error.place}: {error.kind}") from error
+    return f"{count} numbers, sum {found}"
 
 
 def main() -> None:
     """The command line."""
-    if len(sys.argv) != 2:
-        print(__doc__.strip(), file=sys.stderr)
-        sys.exit(2)
-    path = sys.argv[1]
-    try:
-        count, found = total(path)
-    except jadvolni.ParseError as error:
-        sys.exit(f"{path}: line {error.field + 1}, byte {error.place}: {error.kind}")
-    except OSError as error:
-        sys.exit(f"{path}: {error.strerror}")
-    except ValueError as error:
-        sys.exit(f"{path}: {error}")
-    if sys.stdout is None:
-        sys.exit("standard output is closed")
-    print(f"{count} numbers, sum {found}")
+    command.ask(len(sys.argv) == 2, __doc__)
+    command.tell(sys.argv[1], total)
 
 
 if __name__ == "__main__":

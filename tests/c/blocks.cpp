@@ -1,7 +1,8 @@
 // Tables in blocks: from a source of single bytes, with quotes that stay open, with a header; and what is said of
 // columns that can't be read.
-#include "jadvolni.hpp"
+#include "jadvolni_blocks.hpp"
 #include "check.h"
+#include "tables.hpp"
 
 #include <algorithm>
 #include <random>
@@ -25,14 +26,6 @@ struct source {
         return std::ptrdiff_t(front.size());
     }
 };
-
-static jadvolni::table commas(bool has_quotes)
-{
-    jadvolni::table how{};
-    how.separator = ',';
-    how.has_quotes = has_quotes;
-    return how;
-}
 
 // The numbers of the second of two columns, and what is wrong at last.
 static std::string read(std::string_view text, std::size_t step, std::size_t size, const jadvolni::table &how)

@@ -1,6 +1,7 @@
 // Columns by the names of a header, of a text and in blocks; hostile headers. Numbers within bounds.
 #include "jadvolni_columns.hpp"
 #include "check.h"
+#include "tables.hpp"
 
 #include <array>
 #include <climits>
@@ -10,14 +11,6 @@
 #include <vector>
 
 using jadvolni::columns_by_header, jadvolni::status;
-
-static jadvolni::table commas(bool has_quotes = false)
-{
-    jadvolni::table how{};
-    how.separator = ',';
-    how.has_quotes = has_quotes;
-    return how;
-}
 
 // The names, each with a bar behind it, and the place behind the header; or what is wrong, and where.
 static std::string header(std::string_view text, const jadvolni::table &how)

@@ -16,6 +16,18 @@ static void check(const char *file, int line, int holds, const char *what)
 
 #define CHECK(...) check(__FILE__, __LINE__, !!(__VA_ARGS__), #__VA_ARGS__)
 
+/* What a macro says of each type that columns have: of its name, C's type, its least number, its greatest, and how many
+ * bytes these two are, each with one behind it. */
+#define OF_EACH_TYPE(SAYS)                                  \
+    SAYS(u8, uint8_t, 0, 255, 6);                           \
+    SAYS(u16, uint16_t, 0, 65535, 8);                       \
+    SAYS(u32, uint32_t, 0, 4294967295, 13);                 \
+    SAYS(u64, uint64_t, 0, 18446744073709551615, 23);       \
+    SAYS(i8, int8_t, -128, 127, 9);                         \
+    SAYS(i16, int16_t, -32768, 32767, 13);                  \
+    SAYS(i32, int32_t, -2147483648, 2147483647, 23);        \
+    SAYS(i64, int64_t, -9223372036854775808, 9223372036854775807, 41)
+
 /* Memory on the heap of just these bytes: so a sanitizer sees each read and each write outside of it. */
 static inline void *exactly(const void *bytes, size_t len)
 {

@@ -27,14 +27,7 @@ static const jadvolni_format STANDARD = JADVOLNI_FORMAT_STANDARD;
 
 static void each_type(void)
 {
-    EACH_TYPE(u8, uint8_t, 0, 255, 6);
-    EACH_TYPE(u16, uint16_t, 0, 65535, 8);
-    EACH_TYPE(u32, uint32_t, 0, 4294967295, 13);
-    EACH_TYPE(u64, uint64_t, 0, 18446744073709551615, 23);
-    EACH_TYPE(i8, int8_t, -128, 127, 9);
-    EACH_TYPE(i16, int16_t, -32768, 32767, 13);
-    EACH_TYPE(i32, int32_t, -2147483648, 2147483647, 23);
-    EACH_TYPE(i64, int64_t, -9223372036854775808, 9223372036854775807, 41);
+    OF_EACH_TYPE(EACH_TYPE);
 }
 
 /* Checks what a column of int16_t answers, where there is room for three and 77 stands in each place. */
@@ -281,8 +274,43 @@ static void blocks(void)
     fclose(file);
 }
 
+/* The lines that the header's comment reads by a table of one column: with either end, blanks and no number. */
+static void columns_of_tables(void)
+{
+    static const char text[] = "12.50\r\n\n -0.05\t\n\r\n1000.00";
+    int64_t values[6] = {77, 77, 77, 77, 77, 77};
+    uint8_t bits[1] = {0xFF};
+    char *bytes = exactly(text, sizeof text - 1);
+    jadvolni_table lines = {.separator = '\n', .allows_returns = 1, .allows_blanks = 1};
+    jadvolni_table_column cents = {.places = 2, .i64 = {values, 6}, .present = {bits, 1}};
+    jadvolni_table_result r = jadvolni_parse_table(bytes, sizeof text - 1, true, &lines, 6, &cents, 1);
+    free(bytes);
+    CHECK(r.status == JADVOLNI_OK && r.rows == 5 && r.place == 25 && bits[0] == 0xF5);
+    CHECK(values[0] == 1250 && values[1] == 0 && values[2] == -5 && values[3] == 0 && values[4] == 100000);
+    CHECK(values[5] == 77);
+}
+
+/* Between line feeds no byte of a table parts cells: each is one of its line. */
+static void bytes_of_lines(void)
+{
+    int byte;
+    for (byte = 0; byte < 256; byte++) {
+        uint8_t values[2] = {77, 77};
+        char text[] = "1?2\n3\n";
+        jadvolni_table lines = {.separator = '\n'};
+        jadvolni_table_column column = {.format = JADVOLNI_FORMAT_STANDARD, .u8 = {values, 2}};
+        if (byte == '\n' || (byte >= '0' && byte <= '9')) continue;
+        text[1] = (char)byte;
+        jadvolni_table_result r = jadvolni_parse_table(text, 6, true, &lines, 2, &column, 1);
+        CHECK(r.status == JADVOLNI_INVALID_DIGIT && r.column == 0 && r.rows == 0 && r.place == 1);
+        CHECK(values[0] == 77 && values[1] == 77);
+    }
+}
+
 int main(void)
 {
+    columns_of_tables();
+    bytes_of_lines();
     each_type();
     faults_of_fields();
     faults_of_formats();

@@ -1,6 +1,7 @@
 // What a text tells of a fault of its table, in C++: of each kind, with hostile cells, by names, and in words.
 #include "jadvolni_columns.hpp"
 #include "check.h"
+#include "tables.hpp"
 
 #include <array>
 #include <cstring>
@@ -8,14 +9,6 @@
 #include <vector>
 
 using jadvolni::status, jadvolni::table_fault;
-
-static jadvolni::table commas(bool has_quotes = false)
-{
-    jadvolni::table how{};
-    how.separator = ',';
-    how.has_quotes = has_quotes;
-    return how;
-}
 
 // The fault of a text whose columns are a number, a cell that isn't read, and a number.
 static table_fault fault_of(std::string_view text, const jadvolni::table &how, std::size_t capacity = 9)

@@ -1,6 +1,7 @@
 // Bad rows in C++: where a row is, and tables whose bad rows are skipped, whole and in blocks.
-#include "jadvolni.hpp"
+#include "jadvolni_faults.hpp"
 #include "check.h"
+#include "tables.hpp"
 
 #include <algorithm>
 #include <array>
@@ -44,12 +45,10 @@ static void whole()
 
 // ---- in blocks
 
-static jadvolni::table commas(unsigned flags = 0)
+static jadvolni::table with_flags(unsigned flags)
 {
-    jadvolni::table how{};
-    how.separator = ',';
+    auto how = commas((flags & 2) != 0);
     how.has_returns = flags & 1;
-    how.has_quotes = (flags & 2) != 0;
     how.allows_blanks = (flags & 4) != 0;
     how.skips_empty_rows = (flags & 8) != 0;
     return how;
@@ -144,7 +143,7 @@ static void troubles()
 {
     auto read = in_blocks({"x\n1,a\n2,bbbbbbbbbb\n", 1, nullptr}, 8, commas(), 4, 4);
     CHECK(read.rows == std::vector<int>{1} && read.bad_rows == 1 && read.end == "line 3: a row has no room");
-    read = in_blocks({"x\n1,a\n2,\"\nx\nx\nx\nx\n", 3, nullptr}, 8, commas(2), 4, 4);
+    read = in_blocks({"x\n1,a\n2,\"\nx\nx\nx\nx\n", 3, nullptr}, 8, with_flags(2), 4, 4);
     CHECK(read.rows == std::vector<int>{1} && read.bad_rows == 1);
     CHECK(read.end == "line 3: a row has no room: a quote isn't closed");
     // What ends reading where nothing is skipped is told as exactly.
@@ -153,7 +152,7 @@ static void troubles()
         std::vector<char> bytes(9);
         int numbers[2];
         jadvolni::table_column columns[] = {jadvolni::column_into(numbers), {}};
-        jadvolni::table_blocks blocks(source{text, step, nullptr}, bytes, commas(2), 2, columns);
+        jadvolni::table_blocks blocks(source{text, step, nullptr}, bytes, with_flags(2), 2, columns);
         std::string said;
         for (const jadvolni::table_block &block : blocks) {
             const auto fault = block.fault();
@@ -194,7 +193,7 @@ static void random_tables()
     for (int time = 0; time < 20000; ++time) {
         std::string text;
         for (auto count = random() % 24; count > 0; --count) text += pieces[random() % std::size(pieces)];
-        const auto how = commas(random() % 16);
+        const auto how = with_flags(random() % 16);
         const auto whole = of_whole(text, how);
         const std::size_t step = 1 + random() % 7, size = 1 + random() % 30;
         const auto read = in_blocks({text, step, &random}, size, how, 2, 64);

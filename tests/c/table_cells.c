@@ -1,27 +1,5 @@
 /* Fixed-point numbers and texts in the cells of tables, from C: rows worked by hand. */
-#include "jadvolni.h"
-#include "check.h"
-
-#define STANDARD JADVOLNI_FORMAT_STANDARD
-
-/* What is answered is this. */
-static int answers(jadvolni_table_result r, uint32_t status, size_t column, size_t rows, size_t place)
-{
-    if (r.status == status && r.column == column && r.rows == rows && r.place == place) return 1;
-    fprintf(stderr, "%s, column %zu, rows %zu, place %zu\n", jadvolni_status_name(r.status), r.column, r.rows, r.place);
-    return 0;
-}
-
-/* Reads a text from memory that has not a byte more. */
-static jadvolni_table_result read_table(const char *text, const jadvolni_table *table, size_t rows,
-                                        jadvolni_table_column *columns, size_t count)
-{
-    size_t len = strlen(text);
-    char *bytes = exactly(text, len);
-    jadvolni_table_result r = jadvolni_parse_table(bytes, len, true, table, rows, columns, count);
-    free(bytes);
-    return r;
-}
+#include "tables.h"
 
 /* ---- amounts */
 
@@ -85,33 +63,40 @@ static void amounts(void)
     CHECK(days[0] == 17 && cents[0] == -123450 && days[1] == 8 && cents[1] == 7);
 }
 
-/* What is wrong with one amount in a table of quotes and blanks: its place is that of the byte in the text. */
-#define WRONG(text, fewer, status, place)                                                          \
-    do {                                                                                           \
-        int64_t cents[2] = {77, 77};                                                               \
-        jadvolni_table table = {.separator = ';', .has_quotes = 1, .allows_blanks = 1};            \
-        jadvolni_table_column columns[] = {{.format = {0}}, amounts_into(cents, 2)};               \
-        columns[1].takes_fewer = (fewer);                                                          \
-        CHECK(answers(read_table(text, &table, 2, columns, 2), status, 1, 0, place));              \
-        CHECK(cents[0] == 77 && cents[1] == 77);                                                   \
-    } while (0)
-
+/* What is wrong with an amount behind a text, between quotes and among blanks: its place is that of the byte in the text. */
 static void wrong_amounts(void)
 {
-    WRONG("a;12,505", 0, JADVOLNI_INVALID_DIGIT, 7);
-    WRONG("a;\"12,505\"", 0, JADVOLNI_INVALID_DIGIT, 8);
-    WRONG("a;\" 12,505 \"\n", 1, JADVOLNI_INVALID_DIGIT, 9);
-    WRONG("a;12,5", 0, JADVOLNI_EMPTY, 6);
-    WRONG("a;12", 0, JADVOLNI_EMPTY, 4);
-    WRONG("a;12,", 1, JADVOLNI_EMPTY, 5);
-    WRONG("a;12.,50", 1, JADVOLNI_INVALID_DIGIT, 4);
-    WRONG("a;,50", 1, JADVOLNI_INVALID_DIGIT, 2);
-    WRONG("a;\n", 1, JADVOLNI_EMPTY, 2);
-    WRONG("a;1,00EUR", 0, JADVOLNI_INVALID_DIGIT, 6);
-    WRONG("a;1,0\"0", 0, JADVOLNI_MISPLACED_QUOTE, 5);
-    WRONG("a;92.233.720.368.547.758,08", 0, JADVOLNI_OVERFLOW, 26);
-    /* By the zeros that aren't written, which is told where reading stops. */
-    WRONG("a;-922.337.203.685.477.581", 1, JADVOLNI_UNDERFLOW, 26);
+    static const struct {
+        const char *text;
+        uint8_t takes_fewer;
+        uint32_t status;
+        size_t place;
+    } rows[] = {
+        {"a;12,505", 0, JADVOLNI_INVALID_DIGIT, 7},
+        {"a;\"12,505\"", 0, JADVOLNI_INVALID_DIGIT, 8},
+        {"a;\" 12,505 \"\n", 1, JADVOLNI_INVALID_DIGIT, 9},
+        {"a;12,5", 0, JADVOLNI_EMPTY, 6},
+        {"a;12", 0, JADVOLNI_EMPTY, 4},
+        {"a;12,", 1, JADVOLNI_EMPTY, 5},
+        {"a;12.,50", 1, JADVOLNI_INVALID_DIGIT, 4},
+        {"a;,50", 1, JADVOLNI_INVALID_DIGIT, 2},
+        {"a;\n", 1, JADVOLNI_EMPTY, 2},
+        {"a;1,00EUR", 0, JADVOLNI_INVALID_DIGIT, 6},
+        {"a;1,0\"0", 0, JADVOLNI_MISPLACED_QUOTE, 5},
+        {"a;92.233.720.368.547.758,08", 0, JADVOLNI_OVERFLOW, 26},
+        /* By the zeros that aren't written, which is told where reading stops. */
+        {"a;-922.337.203.685.477.581", 1, JADVOLNI_UNDERFLOW, 26},
+    };
+    size_t k;
+    for (k = 0; k < sizeof rows / sizeof *rows; k++) {
+        int64_t cents[2] = {77, 77};
+        jadvolni_table table = {.separator = ';', .has_quotes = 1, .allows_blanks = 1};
+        jadvolni_table_column columns[] = {{.format = {0}}, amounts_into(cents, 2)};
+        columns[1].takes_fewer = rows[k].takes_fewer;
+        jadvolni_table_result r = read_table(rows[k].text, &table, 2, columns, 2);
+        CHECK(answers(r, rows[k].status, 1, 0, rows[k].place) || (fprintf(stderr, "%s\n", rows[k].text), 0));
+        CHECK(cents[0] == 77 && cents[1] == 77);
+    }
 }
 
 /* Fewer places are taken where the column says so; amounts may be missing where it has bits. */

@@ -1,16 +1,5 @@
 /* The call of jadvolni.h that reads tables: each type, each status, each argument wrong, and hostile columns. */
-#include "jadvolni.h"
-#include "check.h"
-
-#define STANDARD JADVOLNI_FORMAT_STANDARD
-
-/* What is answered is this. */
-static int answers(jadvolni_table_result r, uint32_t status, size_t column, size_t rows, size_t place)
-{
-    if (r.status == status && r.column == column && r.rows == rows && r.place == place) return 1;
-    fprintf(stderr, "%s, column %zu, rows %zu, place %zu\n", jadvolni_status_name(r.status), r.column, r.rows, r.place);
-    return 0;
-}
+#include "tables.h"
 
 /* A table of one column of a type: its least and greatest number and a cell that is none, in room for four. */
 #define EACH_TYPE(name, type, least, greatest, at)                                                      \
@@ -35,14 +24,7 @@ static int answers(jadvolni_table_result r, uint32_t status, size_t column, size
 
 static void each_type(void)
 {
-    EACH_TYPE(u8, uint8_t, 0, 255, 6);
-    EACH_TYPE(u16, uint16_t, 0, 65535, 8);
-    EACH_TYPE(u32, uint32_t, 0, 4294967295, 13);
-    EACH_TYPE(u64, uint64_t, 0, 18446744073709551615, 23);
-    EACH_TYPE(i8, int8_t, -128, 127, 9);
-    EACH_TYPE(i16, int16_t, -32768, 32767, 13);
-    EACH_TYPE(i32, int32_t, -2147483648, 2147483647, 23);
-    EACH_TYPE(i64, int64_t, -9223372036854775808, 9223372036854775807, 41);
+    OF_EACH_TYPE(EACH_TYPE);
 }
 
 /* Checks what a table of an int16_t, a cell that isn't read and a uint8_t answers, in room for three rows. */

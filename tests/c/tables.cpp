@@ -1,5 +1,5 @@
 // Tables in C++: whole, in blocks from a reader that gives little or fails, by widths, and with missing numbers.
-#include "jadvolni.hpp"
+#include "jadvolni_tables.hpp"
 #include "check.h"
 
 #include <algorithm>
@@ -187,8 +187,53 @@ static void tables_by_widths()
     CHECK(in_table_blocks({rows, 99, 99}, 12, 9, 1, fixed(true)) == "a row has no room 0 0 0\n");
 }
 
+// A column as a table of one: lines that end either way, blanks, numbers that may be missing, and amounts.
+static void columns_of_lines()
+{
+    std::vector<std::int64_t> values(9, 77);
+    std::uint8_t bits[1] = {0xFF};
+    jadvolni::fixed amount{};
+    amount.places = 2;
+    jadvolni::table lines{}, returns{};
+    lines.separator = returns.separator = '\n';
+    lines.allows_returns = lines.allows_blanks = returns.has_returns = 1;
+    auto cents = jadvolni::column_into(values, amount), bare = cents;
+    cents.present = {bits, std::size(bits)};
+    auto read = jadvolni::parse_column("12.50\r\n\n -0.05\t\n\r\n1000.00", lines, cents);
+    CHECK(read && read.count() == 5 && read.place() == 25 && bits[0] == 0xF5);
+    CHECK(values[0] == 1250 && values[1] == 0 && values[2] == -5 && values[3] == 0 && values[4] == 100000 && values[5] == 77);
+    // As far as there is room: of the bits, of the array, and of a column that isn't read.
+    read = jadvolni::parse_column(std::string(18, '\n'), lines, cents);
+    CHECK(read && read.count() == 8 && read.place() == 8 && bits[0] == 0 && values[7] == 0 && values[8] == 77);
+    read = jadvolni::parse_column("1.00\n2.00\nx", lines, jadvolni::column_into(values.data(), 2, amount));
+    CHECK(read && read.count() == 2 && read.place() == 10 && values[1] == 200 && values[2] == 0);
+    read = jadvolni::parse_column("x", lines, {});
+    CHECK(read && read.count() == 0 && read.place() == 0);
+    jadvolni::cell_text texts[2];
+    read = jadvolni::parse_column(std::string_view("a,\0\"\n b", 7), lines, jadvolni::column_into(texts));
+    CHECK(read && read.count() == 2 && texts[0].size == 4 && texts[1].start == 5 && texts[1].size == 2);
+    // What is wrong: a number, a missing return, a missing number, and a separator that is none.
+    read = jadvolni::parse_column("1.00\n2.005\n", lines, bare);
+    CHECK(read.status() == status::invalid_digit && read.count() == 1 && read.place() == 9 && values[0] == 100);
+    read = jadvolni::parse_column("1.00\r\n2.00\n", returns, bare);
+    CHECK(read.status() == status::missing_return && read.count() == 1 && read.place() == 10);
+    read = jadvolni::parse_column("1.00\r\n\r\n", returns, bare);
+    CHECK(read.status() == status::empty && read.count() == 1 && read.place() == 6);
+    read = jadvolni::parse_column("1.00,2.00\n", lines, bare);
+    CHECK(read.status() == status::invalid_digit && read.count() == 0 && read.place() == 4);
+    // What is refused: a description, and an array that overlaps with its bits.
+    amount.places = 39;
+    read = jadvolni::parse_column("1", lines, jadvolni::column_into(values, amount));
+    CHECK(read.status() == status::invalid_places && read.count() == 0 && read.place() == 0);
+    std::uint8_t both[2] = {};
+    auto overlapping = jadvolni::column_into(both);
+    overlapping.present = {both, 1};
+    CHECK(jadvolni::parse_column("1", lines, overlapping).status() == status::invalid_table);
+}
+
 int main()
 {
+    columns_of_lines();
     tables();
     tables_in_blocks();
     bits();

@@ -2,6 +2,7 @@
 // refused.
 #include "jadvolni_columns.hpp"
 #include "check.h"
+#include "tables.hpp"
 
 #include <algorithm>
 #include <array>
@@ -20,13 +21,6 @@ static jadvolni::table bank()
     jadvolni::table how{};
     how.separator = ';';
     how.has_quotes = how.allows_returns = how.allows_blanks = 1;
-    return how;
-}
-
-static jadvolni::table commas()
-{
-    jadvolni::table how{};
-    how.separator = ',';
     return how;
 }
 

@@ -1,6 +1,7 @@
 // Tables in threads beside one thread: the numbers, the bits and the first wrong cell of random and of worked tables.
 #include "../../examples/cpp/table_threads.hpp"
 #include "check.h"
+#include "tables.hpp"
 
 #include <random>
 #include <string>
@@ -56,9 +57,7 @@ static std::string in_so_many(std::size_t threads, std::string_view text, const 
 
 static void worked_tables()
 {
-    jadvolni::table how{};
-    how.separator = ',';
-    how.has_quotes = 1;
+    auto how = commas(true);
     std::string_view right = "1,\"a\n,\",2\n,\"\"\"\n\",3\n-4,b,\"5\"\n", wrong = "1,\"\n\",2\n3,c\"d,4\nx,,5\n6,\",7\n";
     for (std::size_t threads = 0; threads <= right.size() + 2; ++threads) {
         CHECK(in_so_many(threads, right, how) == "1!2 0?3 -4!5 Ok 0 3 28");
@@ -108,8 +107,7 @@ static void random_tables()
     std::mt19937_64 random(1);
     int right = 0;
     for (int k = 0; k < 100; ++k) {
-        jadvolni::table how{};
-        how.separator = ',';
+        auto how = commas();
         how.has_returns = random() % 2;
         how.has_quotes = random() % 4 != 0;
         how.allows_blanks = random() % 2;

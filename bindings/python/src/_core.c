@@ -125,37 +125,6 @@ static PyObject *parse_partial(PyObject *module, PyObject *const *args, Py_ssize
         written->type->partial(text->bytes, text->len, &written->format, &value), &value);
 }
 
-/* A number of 128 bits, the ASCII text behind it, and the place behind that. */
-static PyObject *parts(const jadvolni_uint128 *value, const char *suffix, size_t len, size_t stop)
-{
-    PyObject *number = wide_number(value);
-    if (!number)
-        return NULL;
-    return Py_BuildValue("(Ns#n)", number, suffix, (Py_ssize_t)len, (Py_ssize_t)stop);
-}
-
-static PyObject *parse_literal(PyObject *module, PyObject *const *args, Py_ssize_t count,
-                               PyObject *keywords)
-{
-    static const char *const names[] = {"text", "format"};
-    const core_state *state = PyModule_GetState(module);
-    jadvolni_format format;
-    jadvolni_uint128 value;
-    size_t suffix;
-    borrowed_text text;
-    PyObject *found[2], *result = NULL;
-    if (arguments("parse_literal", args, count, keywords, names, 2, 2, found) < 0
-        || format_of(state, found[1], &format) < 0 || borrow("text", found[0], &text) < 0)
-        return NULL;
-    jadvolni_result answer = jadvolni_parse_literal(text.bytes, text.len, &format, &value, &suffix);
-    if (answer.status == JADVOLNI_OK)
-        result = parts(&value, text.bytes + suffix, answer.place - suffix, answer.place);
-    else
-        raise_fault(state, answer, text.bytes, text.len, NULL);
-    give_back(&text);
-    return result;
-}
-
 /* ---- formats ---- */
 
 static PyObject *check_format(PyObject *module, PyObject *fields)
@@ -213,13 +182,27 @@ static PyMethodDef METHODS[] = {
          "the text it has.\n\n"
          "The suffix is all ASCII letters, digits 0 to 9 and \"_\" behind the number; which ones\n"
          "a language has is for the caller to ask. The value has up to 128 bits."),
+    CALL(parse_typed_literal,
+         "parse_typed_literal(text, suffixes, format=None)\n--\n\n"
+         "The literal that the text begins with, as of the type that its suffix names: its value,\n"
+         "its suffix, the type, and how many bytes of the text it has.\n\n"
+         "suffixes: a dict of suffixes and their types, byte for byte. The empty one names the\n"
+         "type of a literal without a suffix. ParseError tells a digit behind the number, a\n"
+         "suffix that isn't in it, or the digit with which the number leaves its type. A literal\n"
+         "has no minus: where one widens the range, let the suffix name the unsigned type."),
     CALL(parse_column,
-         "parse_column(text, type=\"i64\", separator=b\"\\n\", format=None)\n--\n\n"
+         "parse_column(text, type=\"i64\", separator=b\"\\n\", format=None, *, has_returns=False, "
+         "allows_returns=False, allows_blanks=False, missing=None)\n--\n\n"
          "The numbers of the text's fields, as an array.array.\n\n"
          "A field is the bytes up to a separator, which may be any byte; a last separator ends\n"
          "no further field. ParseError has the first field that is no number, by `field` and\n"
          "`start`, and its `place` counts from the text's start. The GIL is released: no\n"
-         "other thread may change the text meanwhile."),
+         "other thread may change the text meanwhile.\n\n"
+         "Lines alone may have more, and then are read as a table of one column. has_returns: a\n"
+         "return stands before each line feed. allows_returns: one may stand there, so that each\n"
+         "line may end either way. allows_blanks: spaces and tabs may stand around a number or\n"
+         "`missing`. missing: what stands for a missing number; the column then is a Sparse, and\n"
+         "with None no number may be missing. type: a Fixed reads amounts."),
     CALL(line_column,
          "line_column(text, place)\n--\n\n"
          "Line and column of a place of a text, both from 0: how many line feeds stand before it,\n"

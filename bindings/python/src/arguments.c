@@ -84,11 +84,12 @@ int format_of(const core_state *state, PyObject *format, jadvolni_format *fields
     return whole ? 0 : -1;
 }
 
-/* The bytes of a Fixed and its type, and 0 for what has none. -1 with an exception. */
-static int fixed_of(const core_state *state, PyObject *given, notation *written)
+int fixed_of(const core_state *state, PyObject *given, notation *written)
 {
     char *bytes = NULL;
     Py_ssize_t size;
+    if (!given || PyUnicode_Check(given) || PyType_Check(given))
+        return 0;
     PyObject *own = PyObject_GetAttr(given, state->fixed_name), *type = NULL;
     if (!own) {
         if (!PyErr_ExceptionMatches(PyExc_AttributeError))
@@ -111,8 +112,7 @@ static int fixed_of(const core_state *state, PyObject *given, notation *written)
 
 int notation_of(const core_state *state, PyObject *type, PyObject *format, notation *written)
 {
-    int has_fixed = type && !PyUnicode_Check(type) && !PyType_Check(type);
-    written->is_fixed = has_fixed ? fixed_of(state, type, written) : 0;
+    written->is_fixed = fixed_of(state, type, written);
     if (written->is_fixed > 0 && format && format != Py_None) {
         raise_type("format", "None where the type is a Fixed, which has one of its own", format, "");
         return -1;

@@ -87,14 +87,64 @@ static PyObject *column_behind(PyObject *module, PyObject *const *found, const f
     return values;
 }
 
+/* The arguments of parse_column. From the fifth on they ask for a table of one column. */
+static const char *const NAMES[] = {"text", "type", "separator", "format",
+                                    "has_returns", "allows_returns", "allows_blanks", "missing"};
+enum { BY_PLACE = 4, FLAGS = 7, ARGUMENTS = 8 };
+
+/* Whether a table of one column is asked for: by a flag, a mark or a Fixed. -1 with an exception. */
+static int asks_for_table(const core_state *state, PyObject *const *found)
+{
+    notation written;
+    int asks = found[FLAGS] && found[FLAGS] != Py_None;
+    for (int k = BY_PLACE; asks == 0 && k < FLAGS; k++)
+        asks = found[k] ? PyObject_IsTrue(found[k]) : 0;
+    return asks ? asks : fixed_of(state, found[1], &written);
+}
+
+/* The arguments that were given, by their names, but for the separator. */
+static PyObject *given_arguments(PyObject *const *found)
+{
+    PyObject *given = PyDict_New();
+    for (int k = 0; given && k < ARGUMENTS; k++)
+        if (k != 2 && found[k] && PyDict_SetItemString(given, NAMES[k], found[k]) < 0)
+            Py_CLEAR(given);
+    return given;
+}
+
+/* The column of a table, which Python reads. */
+static PyObject *column_of_table(PyObject *const *found)
+{
+    int separator = separator_of(found[2]);
+    if (separator != '\n') {
+        if (separator >= 0)
+            PyErr_SetString(PyExc_ValueError,
+                            "separator has to be a line feed where returns, blanks, missing numbers or a "
+                            "Fixed are asked for");
+        return NULL;
+    }
+    PyObject *lines = PyImport_ImportModule("jadvolni._lines"), *column = NULL;
+    PyObject *call = lines ? PyObject_GetAttrString(lines, "read_lines") : NULL;
+    PyObject *none = PyTuple_New(0), *given = given_arguments(found);
+    if (call && none && given)
+        column = PyObject_Call(call, none, given);
+    Py_XDECREF(lines);
+    Py_XDECREF(call);
+    Py_XDECREF(none);
+    Py_XDECREF(given);
+    return column;
+}
+
 PyObject *parse_column(PyObject *module, PyObject *const *args, Py_ssize_t count, PyObject *keywords)
 {
-    static const char *const names[] = {"text", "type", "separator", "format"};
     static const field_place first = {0, 0};
-    PyObject *found[4];
-    if (arguments("parse_column", args, count, keywords, names, 4, 4, found) < 0)
+    PyObject *found[ARGUMENTS];
+    if (arguments("parse_column", args, count, keywords, NAMES, BY_PLACE, ARGUMENTS, found) < 0)
         return NULL;
-    return column_behind(module, found, &first);
+    int asks = asks_for_table(PyModule_GetState(module), found);
+    if (asks < 0)
+        return NULL;
+    return asks ? column_of_table(found) : column_behind(module, found, &first);
 }
 
 /* The whole fields of a part of a text, for `iter_column`: `field` were read before, up to `start`. */

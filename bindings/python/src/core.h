@@ -4,8 +4,8 @@
  * The library reads the texts. `types.c` has the types of numbers, `faults.c` the exceptions, `bounds.c` the
  * bounds of a number, `arguments.c` what the calls are given, `columns.c` columns, `tables.c` tables, `apart.c`
  * whether their arrays have memory of their own, `rows.c` where their rows end, `cells.c` the cells of a row
- * and those at fault, `texts.c` their texts, `arrow.c` tables for Arrow, and `_core.c` the other calls and the
- * module. `Format` and `Fixed` are Python, and hand their bytes over as `_fields` and `_fixed`.
+ * and those at fault, `texts.c` their texts, `arrow.c` tables for Arrow, `literals.c` literals, and `_core.c` the
+ * other calls and the module. `Format` and `Fixed` are Python, and hand their bytes over as `_fields` and `_fixed`.
  */
 #ifndef JADVOLNI_PYTHON_CORE_H
 #define JADVOLNI_PYTHON_CORE_H
@@ -47,9 +47,11 @@ typedef jadvolni_result column_call(const char *text, size_t len, uint8_t separa
                                     const jadvolni_format *format, void *values, size_t capacity,
                                     size_t *count);
 
-/* What a type is called, here and by NumPy, the code of its arrays (none for 128 bits) and its calls. */
+/* What a type is called, here and by NumPy, its code in the library's tables of suffixes, that of its arrays
+ * (none for 128 bits), and its calls. */
 typedef struct number_type {
     const char *name;
+    uint32_t code;
     const char *numpy_name;
     const char *array_code;
     parse_call *whole;
@@ -128,6 +130,9 @@ typedef struct notation {
     jadvolni_format format;
     jadvolni_fixed fixed;
 } notation;
+
+/* Whether a type is a Fixed: then the notation has its bytes and its type. -1 with an exception. (arguments.c) */
+int fixed_of(const core_state *state, PyObject *given, notation *written);
 
 /* The notation of a type and a format, or of a Fixed, which has both. -1 with an exception. (arguments.c) */
 int notation_of(const core_state *state, PyObject *type, PyObject *format, notation *written);
@@ -244,6 +249,13 @@ int put_texts(PyObject *bytes, const char *text, const jadvolni_cell_text *cells
 PyObject *arrow_schema_of(PyObject *module, PyObject *args);
 PyObject *arrow_array_of(PyObject *module, PyObject *args);
 PyObject *arrow_stream_of(PyObject *module, PyObject *args);
+
+/* ---- literals.c ---- */
+
+PyObject *parse_literal(PyObject *module, PyObject *const *args, Py_ssize_t count, PyObject *keywords);
+
+PyObject *parse_typed_literal(PyObject *module, PyObject *const *args, Py_ssize_t count,
+                              PyObject *keywords);
 
 /* ---- columns.c ---- */
 

@@ -64,7 +64,8 @@ static PyObject *error_of(PyObject *type, PyObject *message, uint32_t status)
 int is_of_format(uint32_t status)
 {
     return (status >= JADVOLNI_INVALID_MANTISSA_RADIX && status < JADVOLNI_TOO_FEW_CELLS)
-        || status == JADVOLNI_INVALID_TABLE || status > JADVOLNI_MISPLACED_QUOTE;
+        || status == JADVOLNI_INVALID_TABLE
+        || (status > JADVOLNI_MISPLACED_QUOTE && status != JADVOLNI_UNKNOWN_SUFFIX);
 }
 
 void raise_format(const core_state *state, uint32_t status)

@@ -98,27 +98,27 @@ static PyObject *number_i128(const number *value)
     return joined(PyLong_FromLongLong(value->i128.high), value->i128.low);
 }
 
-#define TYPE(name, call, numpy_name, code)                                                       \
-    {#name, numpy_name, code, whole_##name, front_##name, partial_##name, fixed_##name,          \
+#define TYPE(name, call, NAME, numpy_name, code)                                                 \
+    {#name, JADVOLNI_TYPE_##NAME, numpy_name, code, whole_##name, front_##name, partial_##name, fixed_##name,          \
      fixed_front_##name, column_##name, number_##name, sizeof(((number *)0)->call),              \
      offsetof(jadvolni_table_column, call)}
-#define WIDE_TYPE(name)                                                                          \
-    {#name, NULL, NULL, whole_##name, front_##name, partial_##name, fixed_##name,                \
+#define WIDE_TYPE(name, NAME)                                                                    \
+    {#name, JADVOLNI_TYPE_##NAME, NULL, NULL, whole_##name, front_##name, partial_##name, fixed_##name,                \
      fixed_front_##name, NULL, number_##name, 0, 0}
 
 const number_type types[TYPES] = {
-    TYPE(i64, i64, "int64", "q"),
-    TYPE(u64, u64, "uint64", "Q"),
-    TYPE(i32, i32, "int32", "i"),
-    TYPE(u32, u32, "uint32", "I"),
-    TYPE(i16, i16, "int16", "h"),
-    TYPE(u16, u16, "uint16", "H"),
-    TYPE(i8, i8, "int8", "b"),
-    TYPE(u8, u8, "uint8", "B"),
-    TYPE(isize, i64, NULL, "q"),
-    TYPE(usize, u64, NULL, "Q"),
-    WIDE_TYPE(i128),
-    WIDE_TYPE(u128),
+    TYPE(i64, i64, I64, "int64", "q"),
+    TYPE(u64, u64, U64, "uint64", "Q"),
+    TYPE(i32, i32, I32, "int32", "i"),
+    TYPE(u32, u32, U32, "uint32", "I"),
+    TYPE(i16, i16, I16, "int16", "h"),
+    TYPE(u16, u16, U16, "uint16", "H"),
+    TYPE(i8, i8, I8, "int8", "b"),
+    TYPE(u8, u8, U8, "uint8", "B"),
+    TYPE(isize, i64, ISIZE, NULL, "q"),
+    TYPE(usize, u64, USIZE, NULL, "Q"),
+    WIDE_TYPE(i128, I128),
+    WIDE_TYPE(u128, U128),
 };
 
 /* The type of a name, and NULL where it is that of none. */

@@ -2,12 +2,13 @@
 
 import copy
 import decimal
+import io
 import pickle
 import random
 import sys
 import unittest
 
-from jadvolni import (Fixed, Format, FormatError, ParseError, formats, parse, parse_column,
+from jadvolni import (Fixed, Format, FormatError, ParseError, formats, iter_column, parse,
                       parse_front, parse_partial)
 
 CENTS = Fixed("i64", places=2)
@@ -200,7 +201,7 @@ class FixedPoint(unittest.TestCase):
         with self.assertRaisesRegex(TypeError, r"^parse_partial\(\) reads no Fixed: take parse_"):
             parse_partial("1.00", CENTS)
         with self.assertRaisesRegex(TypeError, "^type has to be a str such as 'u64', and not"):
-            parse_column("1.00", CENTS)
+            next(iter_column(io.BytesIO(b"1.00"), CENTS))
 
     def test_what_looks_like_one(self):
         class Alike:

@@ -3,7 +3,8 @@
 import pathlib
 import unittest
 
-from jadvolni import Fixed, Format, FormatError, ParseError, parse, parse_column, parse_table
+from jadvolni import (Fixed, Format, FormatError, ParseError, parse, parse_column, parse_table,
+                      parse_typed_literal)
 
 LIST = pathlib.Path(__file__).resolve().parents[2] / "errors.txt"
 
@@ -47,7 +48,7 @@ OF_FIXED = {
     "InvalidPoint": {"point": "7"},
     "InvalidPlaces": {"places": 39},
 }
-# The kinds of literals with types, which Python has no call for.
+# The kinds of literals with types. No call has an invalid table of suffixes.
 OF_TYPED_LITERALS = {"UnknownSuffix", "InvalidSuffixTable"}
 
 
@@ -61,8 +62,8 @@ class Messages(unittest.TestCase):
     """The messages of the exceptions."""
 
     def test_each_kind_is_tried(self):
-        tried = {*OF_TEXTS, *OF_FORMATS, *OF_TABLES, *OF_FIXED, "UnknownField"}
-        self.assertEqual(tried, {*listed()} - {"Ok", "Unknown", *OF_TYPED_LITERALS})
+        tried = {*OF_TEXTS, *OF_FORMATS, *OF_TABLES, *OF_FIXED, *OF_TYPED_LITERALS, "UnknownField"}
+        self.assertEqual(tried, {*listed()} - {"Ok", "Unknown"})
 
     def test_faults_of_texts(self):
         for kind, (place, text, format) in OF_TEXTS.items():
@@ -97,6 +98,11 @@ class Messages(unittest.TestCase):
                 Fixed(**{"places": 2, **given})
             message = listed()[kind]
             self.assertEqual((caught.exception.kind, str(caught.exception)), (kind, message))
+
+    def test_an_unknown_suffix(self):
+        with self.assertRaises(ParseError) as caught:
+            parse_typed_literal("1u", {"": "u8"})
+        self.assertEqual(str(caught.exception), f"{listed()['UnknownSuffix']} at byte 1: b'1u'")
 
     def test_a_field_of_a_later_version(self):
         with self.assertRaises(FormatError) as caught:

@@ -164,6 +164,41 @@ class Sequences(unittest.TestCase):
                 self.assertEqual((found.dtype.kind, found.tolist()), ("O", ["a", None]))
             self.assertEqual(parse_table("", BOTH).to_pandas().shape, (0, 2))
 
+    @unittest.skipUnless(HAS["pandas"], "pandas isn't installed")
+    def test_categories_of_pandas(self):
+        column = Column(Text(), may_miss=True)
+        columns = {"a": column, "b": "u8", "c": Text("cp1252"), "d": Text(None)}
+        text = "rent,1,\xfc,x\nfood,2,b,y\n,3,,x\nrent,4,b,\n".encode("cp1252")
+        table = parse_table(text, columns)
+        a = (["food", "rent"], [1, 0, -1, 1])
+        found = {"a": a, "c": (["", "b", "\xfc"], [2, 1, 0, 1]),
+                 "d": ([b"", b"x", b"y"], [1, 2, 1, 0])}
+        for asked, names in ((False, ()), (True, "acd"), ({"a", "d"}, "ad"), (["c"], "c"),
+                             (frozenset(), "")):
+            frame = table.to_pandas(categories=asked)
+            self.assertEqual(frame["b"].tolist(), [1, 2, 3, 4])
+            for name in "acd":
+                is_category = str(frame[name].dtype) == "category"
+                self.assertEqual(is_category, name in names)
+                if is_category:
+                    told = frame[name].cat
+                    self.assertEqual((told.categories.tolist(), told.codes.tolist()), found[name])
+        told = table["a"].to_pandas(categories=True).cat
+        self.assertEqual((told.categories.tolist(), told.codes.tolist()), a)
+        for rows in (b"", b",1,,\n"):
+            told = parse_table(rows, columns).to_pandas(categories=True)["a"]
+            self.assertEqual(told.cat.categories.tolist(), [])
+            self.assertEqual(told.isna().tolist(), [True] * len(told))
+        for asked, kind, message in (
+            ({"b"}, ValueError, "^categories has 'b', which is no column of texts"),
+            (["a", "e"], ValueError, "^categories has 'e', which is no column of texts"),
+            ("a", TypeError, "^categories has to be True, False or a set of names, and not str"),
+            (1, TypeError, "^categories has to be True, False or a set of names, and not int"),
+            (None, TypeError, "^categories has to be True, False or a set of names, and not None"),
+        ):
+            with self.assertRaisesRegex(kind, message):
+                table.to_pandas(categories=asked)
+
 
 class Capsules(unittest.TestCase):
     """A column for Arrow."""

@@ -9,6 +9,8 @@
     (12, 2)
     >>> jadvolni.parse_literal("0xFFull;", jadvolni.formats.C)
     (255, 'ull', 7)
+    >>> jadvolni.parse_typed_literal("1_000u16;", {"": "i32", "u16": "u16"}, jadvolni.formats.RUST)
+    (1000, 'u16', 'u16', 8)
     >>> jadvolni.parse("-1.234,50", jadvolni.Fixed("i64", places=2, point=",", group="."))
     -123450
     >>> list(jadvolni.parse_column(b"12,7,", "u64", b","))
@@ -32,6 +34,7 @@ from ._core import (
     parse_front,
     parse_literal,
     parse_partial,
+    parse_typed_literal,
 )
 from . import formats
 from ._fixed import Fixed
@@ -65,5 +68,6 @@ __all__ = [
     "parse_literal",
     "parse_partial",
     "parse_table",
+    "parse_typed_literal",
     "read_table",
 ]

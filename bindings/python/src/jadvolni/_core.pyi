@@ -1,12 +1,13 @@
 """The calls of the library, by `_core.c`."""
 
 from array import array
-from typing import Any, Optional, Protocol, SupportsIndex, Union
+from typing import Any, Optional, Protocol, SupportsIndex, TypeVar, Union, overload
 
 from _typeshed import ReadableBuffer
 
 from ._fixed import Fixed
 from ._format import Format
+from ._table import Sparse
 
 Text = Union[str, ReadableBuffer]
 
@@ -21,6 +22,7 @@ class DType(Protocol):
 # The name of a type, as "u8", a class of that name, as numpy.uint8, or a dtype. Not Literal: mypy
 # takes the names in a dict of columns for any str.
 NumberType = Union[str, type, DType]
+_Kind = TypeVar("_Kind", bound=NumberType)
 
 __version__: str
 
@@ -58,12 +60,33 @@ def parse_partial(
     text: Text, type: NumberType = "i64", format: Optional[Format] = None
 ) -> tuple[int, int]: ...
 def parse_literal(text: Text, format: Optional[Format] = None) -> tuple[int, str, int]: ...
+def parse_typed_literal(
+    text: Text, suffixes: dict[str, _Kind], format: Optional[Format] = None
+) -> tuple[int, str, _Kind, int]: ...
+@overload
 def parse_column(
     text: Text,
-    type: NumberType = "i64",
+    type: Union[NumberType, Fixed] = "i64",
     separator: Text = b"\n",
     format: Optional[Format] = None,
+    *,
+    has_returns: bool = False,
+    allows_returns: bool = False,
+    allows_blanks: bool = False,
+    missing: None = None,
 ) -> array[int]: ...
+@overload
+def parse_column(
+    text: Text,
+    type: Union[NumberType, Fixed] = "i64",
+    separator: Text = b"\n",
+    format: Optional[Format] = None,
+    *,
+    has_returns: bool = False,
+    allows_returns: bool = False,
+    allows_blanks: bool = False,
+    missing: Text,
+) -> Sparse: ...
 def line_column(text: Text, place: SupportsIndex) -> tuple[int, int]: ...
 def _parse_part(
     text: Text,

@@ -12,7 +12,7 @@ if TYPE_CHECKING:
     from ._core import Text
 
 # So many bytes of a cell are shown.
-_SHOWN = 40
+SHOWN = 40
 
 
 class Sink(Protocol):
@@ -109,9 +109,9 @@ def _quoted(text: str) -> str:
 
 def _shown(text: bytes) -> str:
     """The first bytes of a cell, as a message shows them."""
-    is_cut = len(text) > _SHOWN
+    is_cut = len(text) > SHOWN
     decoder = codecs.getincrementaldecoder("utf-8")("surrogateescape")
-    return _quoted(decoder.decode(text[:_SHOWN], not is_cut)) + (".." if is_cut else "")
+    return _quoted(decoder.decode(text[:SHOWN], not is_cut)) + (".." if is_cut else "")
 
 
 def _message(fault: Fault, name: object, where: str) -> str:
@@ -135,5 +135,5 @@ def error_of(fault: Fault, names: Sequence[Any], has_records: bool, source: str)
     error.kind, error.place, error.line = fault.kind, fault.place, fault.line
     error.row, error.column, error.name = fault.row, fault.column, name
     error.row_start, error.row_stop = fault.row_start, fault.row_stop
-    error.text = fault.text[:_SHOWN]
+    error.text = fault.text[:SHOWN]
     return error

@@ -2,7 +2,7 @@
 
 from __future__ import annotations
 
-from typing import TYPE_CHECKING, Any, Optional
+from typing import TYPE_CHECKING, Any, Optional, Union
 
 from ._core import parse_column
 from ._format import Format
@@ -11,11 +11,12 @@ if TYPE_CHECKING:
     import numpy
 
     from ._core import NumberType, Text
+    from ._fixed import Fixed
 
 
 def numpy_column(
     text: Text,
-    type: NumberType = "i64",
+    type: Union[NumberType, Fixed] = "i64",
     separator: Text = b"\n",
     format: Optional[Format] = None,
 ) -> numpy.ndarray[Any, Any]:

@@ -2,7 +2,7 @@
 
 from __future__ import annotations
 
-from typing import TYPE_CHECKING, Any, NamedTuple, Optional
+from typing import TYPE_CHECKING, Any, Collection, NamedTuple, Optional, Union
 
 from ._arrow import Arrow, ArrowTable
 from ._texts import TextColumn
@@ -76,16 +76,27 @@ class Table(dict[str, Any]):
         return {name: values.to_numpy() if isinstance(values, (Sparse, TextColumn))
                 else numpy.asarray(values) for name, values in self.items()}
 
-    def to_pandas(self) -> pandas.DataFrame:
+    def to_pandas(self, categories: Union[bool, Collection[str]] = False) -> pandas.DataFrame:
         """A DataFrame of pandas. Where numbers may be missing, a column is one of Int64 or so.
-        Texts are objects."""
-        import numpy
+        Texts are objects; or categories: with True all of them, or those of a set of names."""
         import pandas
 
-        columns = {name: _extension_array(values) if isinstance(values, Sparse)
-                   else values.to_numpy() if isinstance(values, TextColumn)
-                   else numpy.asarray(values) for name, values in self.items()}
+        chosen = self._chosen(categories)
+        columns = {name: _for_pandas(values, name in chosen) for name, values in self.items()}
         return pandas.DataFrame(columns, copy=False)
+
+    def _chosen(self, categories: Union[bool, Collection[str]]) -> Collection[str]:
+        """The names of the columns that become categories. ValueError tells of one of no texts."""
+        texts = {name for name, values in self.items() if isinstance(values, TextColumn)}
+        if isinstance(categories, bool):
+            return texts if categories else ()
+        if isinstance(categories, (str, bytes)) or not isinstance(categories, Collection):
+            kind = type(categories).__name__
+            raise TypeError(f"categories has to be True, False or a set of names, and not {kind}")
+        for name in categories:
+            if name not in texts:
+                raise ValueError(f"categories has {name!r}, which is no column of texts")
+        return categories
 
     def arrow(self, name: Optional[str] = None) -> Arrow:
         """The table, or its column of a name, for what takes Arrow's capsules and is no dict."""
@@ -99,6 +110,17 @@ class Table(dict[str, Any]):
 
     def __arrow_c_stream__(self, requested_schema: Optional[object] = None) -> object:
         return ArrowTable(self).__arrow_c_stream__()
+
+
+def _for_pandas(values: Any, is_category: bool) -> Any:
+    """A column as pandas has it."""
+    import numpy
+
+    if isinstance(values, Sparse):
+        return _extension_array(values)
+    if isinstance(values, TextColumn):
+        return values.categorical() if is_category else values.to_numpy()
+    return numpy.asarray(values)
 
 
 def _extension_array(values: Sparse) -> Any:

@@ -115,11 +115,20 @@ class TextColumn(Sequence["Cell"]):
         found[:] = self.tolist()
         return found
 
-    def to_pandas(self) -> pandas.Series[Any]:
-        """The texts as a Series of pandas, of objects."""
+    def to_pandas(self, categories: bool = False) -> pandas.Series[Any]:
+        """The texts as a Series of pandas: of objects, or of categories, which are sorted."""
         import pandas
 
+        if categories:
+            return pandas.Series(self.categorical())
         return pandas.Series(self.to_numpy(), dtype=object)
+
+    def categorical(self) -> pandas.Categorical:
+        """The texts as pandas has a few that come again and again: as numbers of categories."""
+        import pandas
+
+        seen: dict[Cell, Cell] = {}  # (so that equal texts are one object)
+        return pandas.Categorical([seen.setdefault(it, it) for it in self])
 
     def for_arrow(self) -> tuple[str, Any, Any, bytearray]:
         """What Arrow has: its code of the texts, which are UTF-8 or any bytes, and their arrays.

@@ -1,6 +1,6 @@
 //! Rows at fault: where one is, and tables whose bad rows are skipped.
 
-use crate::table_column::capacity;
+use crate::table_column::call_on_rows;
 use crate::{Dialect, Error, TableColumn, TableError, TableFault};
 use core::fmt;
 use core::ops::Range;
@@ -153,17 +153,8 @@ pub fn parse_table_part_skipping<'b>(
     let text = text.as_ref();
     // SAFETY: as of `parse_table_part`, and `bad` is a slice that is this call's alone, of the library's structs.
     let told = unsafe {
-        sys::jadvolni_parse_table_skipping(
-            text.as_ptr().cast(),
-            text.len(),
-            is_last,
-            &dialect.0,
-            capacity(columns),
-            columns.as_mut_ptr().cast(),
-            columns.len(),
-            bad.as_mut_ptr().cast(),
-            bad.len(),
-        )
+        let (first, room) = (bad.as_mut_ptr().cast(), bad.len());
+        call_on_rows!(jadvolni_parse_table_skipping(text, is_last, dialect, columns, first, room))
     };
     match Error::of(sys::jadvolni_result { status: told.status, place: told.place }) {
         None => Ok(Skipping {

@@ -37,7 +37,7 @@ pub struct Column {
 /// Why a column isn't read to its end.
 #[derive(Debug, Copy, Clone, PartialEq, Eq)]
 pub enum ColumnError {
-    /// The format is invalid, and nothing was read.
+    /// The format is invalid, or the dialect is that of no column, and nothing was read.
     InvalidFormat(Error),
     /// A field is no number of the type. It is the first such one, and all before it were read.
     InvalidField {
@@ -83,6 +83,9 @@ impl core::error::Error for ColumnError {}
 ///
 /// The numbers are at the slice's front, and the rest of it is as it was, also after a fault. What has
 /// no room isn't looked at: a call on the text from `stop` on goes on exactly there.
+///
+/// Lines with returns, blanks, missing numbers or amounts are for
+/// [`parse_column_with_dialect`](crate::parse_column_with_dialect).
 ///
 /// ```
 /// use jadvolni::{parse_column, Column, ColumnError, Error};

@@ -36,6 +36,7 @@ mod format;
 mod header;
 mod integer;
 mod languages;
+mod lines;
 mod literal;
 #[cfg(feature = "std")]
 mod reader;
@@ -65,6 +66,7 @@ pub use format::Format;
 #[cfg(feature = "std")]
 pub use header::{Columns, Header, HeaderError};
 pub use integer::Integer;
+pub use lines::parse_column_with_dialect;
 pub use literal::{parse_literal, Literal};
 #[cfg(feature = "std")]
 pub use reader::{ColumnReader, ReadError};

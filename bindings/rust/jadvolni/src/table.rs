@@ -1,6 +1,6 @@
 //! Tables: the rows of a text, each column read into a slice of its own by one call.
 
-use crate::table_column::capacity;
+use crate::table_column::call_on_rows;
 use crate::{row_place, Error, Position, TableColumn, TableFault};
 use core::fmt;
 use core::marker::PhantomData;
@@ -16,6 +16,9 @@ unsafe impl Send for Dialect<'_> {}
 unsafe impl Sync for Dialect<'_> {}
 
 impl<'a> Dialect<'a> {
+    /// Lines of one cell each, which no byte parts: a column of numbers.
+    pub const LINES: Self = Self::separated_by(b'\n');
+
     /// Cells between a byte, in lines that end in a line feed.
     pub const fn separated_by(separator: u8) -> Self {
         let table = sys::jadvolni_table {
@@ -221,17 +224,7 @@ pub fn parse_table_part(
     let text = text.as_ref();
     // SAFETY: the pointers are those of slices with their lengths, and of a borrowed dialect. Each array is a slice
     // that its column has borrowed alone, and a column is the library's struct.
-    let told = unsafe {
-        sys::jadvolni_parse_table(
-            text.as_ptr().cast(),
-            text.len(),
-            is_last,
-            &dialect.0,
-            capacity(columns),
-            columns.as_mut_ptr().cast(),
-            columns.len(),
-        )
-    };
+    let told = unsafe { call_on_rows!(jadvolni_parse_table(text, is_last, dialect, columns)) };
     match Error::of(sys::jadvolni_result { status: told.status, place: told.place }) {
         None => Ok(Table { rows: told.rows, stop: told.place }),
         Some(error) => Err(TableError { row: told.rows, column: told.column, error }),

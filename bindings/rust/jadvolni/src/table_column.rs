@@ -113,6 +113,23 @@ pub(crate) fn capacity(columns: &[TableColumn<'_>]) -> usize {
     columns.iter().filter_map(TableColumn::room).min().unwrap_or(usize::MAX)
 }
 
+/// A call of the library on the rows of a part of a text, and what it takes behind the columns.
+macro_rules! call_on_rows {
+    ($call:ident($text:ident, $is_last:ident, $dialect:ident, $columns:ident $(, $more:expr)*)) => {
+        jadvolni_sys::$call(
+            $text.as_ptr().cast(),
+            $text.len(),
+            $is_last,
+            &$dialect.0,
+            crate::table_column::capacity($columns),
+            $columns.as_mut_ptr().cast(),
+            $columns.len(),
+            $($more),*
+        )
+    };
+}
+pub(crate) use call_on_rows;
+
 /// As C's `{0}`.
 // SAFETY: the fields are integers and pointers, and each of these may be 0.
 const UNREAD: sys::jadvolni_table_column = unsafe { core::mem::zeroed() };

@@ -8,34 +8,32 @@ use core::slice::from_raw_parts;
 use core::str::from_utf8_unchecked;
 use jadvolni_sys as sys;
 
-/// A type that a suffix may name.
-#[derive(Debug, Copy, Clone, PartialEq, Eq, Hash)]
-#[repr(u32)]
-pub enum IntegerKind {
-    /// `u8`.
-    U8 = sys::JADVOLNI_TYPE_U8,
-    /// `u16`.
-    U16 = sys::JADVOLNI_TYPE_U16,
-    /// `u32`.
-    U32 = sys::JADVOLNI_TYPE_U32,
-    /// `u64`.
-    U64 = sys::JADVOLNI_TYPE_U64,
-    /// `u128`.
-    U128 = sys::JADVOLNI_TYPE_U128,
-    /// `usize`.
-    Usize = sys::JADVOLNI_TYPE_USIZE,
-    /// `i8`.
-    I8 = sys::JADVOLNI_TYPE_I8,
-    /// `i16`.
-    I16 = sys::JADVOLNI_TYPE_I16,
-    /// `i32`.
-    I32 = sys::JADVOLNI_TYPE_I32,
-    /// `i64`.
-    I64 = sys::JADVOLNI_TYPE_I64,
-    /// `i128`.
-    I128 = sys::JADVOLNI_TYPE_I128,
-    /// `isize`.
-    Isize = sys::JADVOLNI_TYPE_ISIZE,
+/// The types, each by its name, that of Rust, and the library's code.
+macro_rules! kinds {
+    ($($name:ident $rust:literal = $code:ident)*) => {
+        /// A type that a suffix may name.
+        #[derive(Debug, Copy, Clone, PartialEq, Eq, Hash)]
+        #[repr(u32)]
+        pub enum IntegerKind {$(
+            #[doc = concat!("`", $rust, "`.")]
+            $name = sys::$code,
+        )*}
+    };
+}
+
+kinds! {
+    U8 "u8" = JADVOLNI_TYPE_U8
+    U16 "u16" = JADVOLNI_TYPE_U16
+    U32 "u32" = JADVOLNI_TYPE_U32
+    U64 "u64" = JADVOLNI_TYPE_U64
+    U128 "u128" = JADVOLNI_TYPE_U128
+    Usize "usize" = JADVOLNI_TYPE_USIZE
+    I8 "i8" = JADVOLNI_TYPE_I8
+    I16 "i16" = JADVOLNI_TYPE_I16
+    I32 "i32" = JADVOLNI_TYPE_I32
+    I64 "i64" = JADVOLNI_TYPE_I64
+    I128 "i128" = JADVOLNI_TYPE_I128
+    Isize "isize" = JADVOLNI_TYPE_ISIZE
 }
 
 /// A suffix, and the type that it names: an entry of a table, which may be a constant.

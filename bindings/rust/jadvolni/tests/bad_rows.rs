@@ -10,7 +10,10 @@ use jadvolni::{
     Dialect, Error, Format, Skipping, TableColumn, TableError, TableFault, TableReadError,
     TableReader,
 };
-use std::io::{self, ErrorKind, Read};
+use std::io::ErrorKind;
+
+mod device;
+use device::{device, Device};
 
 fn comma() -> Dialect<'static> {
     Dialect::separated_by(b',')
@@ -151,28 +154,6 @@ fn by_a_header() {
 
 // ---- readers
 
-/// A reader of a text that gives so many bytes at most, and fails before each of the places.
-struct Device<'a> {
-    text: &'a [u8],
-    most: usize,
-    place: usize,
-    failures: Vec<usize>,
-}
-
-impl Read for Device<'_> {
-    fn read(&mut self, block: &mut [u8]) -> io::Result<usize> {
-        if let Some(index) = self.failures.iter().position(|at| *at == self.place) {
-            self.failures.remove(index);
-            return Err(ErrorKind::TimedOut.into());
-        }
-        let next = self.failures.iter().filter(|at| **at > self.place).min();
-        let stop = next.map_or(self.text.len(), |at| *at).min(self.place.saturating_add(self.most));
-        let count = (&self.text[self.place..stop.min(self.text.len())]).read(block)?;
-        self.place += count;
-        Ok(count)
-    }
-}
-
 /// The numbers of a device's first column, the faults, and how often reading failed; or what ended it.
 fn by_reader(
     device: Device<'_>,
@@ -215,13 +196,13 @@ fn readers_of_any_steps_tell_the_rows_and_places_of_the_whole() {
         for (size, most, room) in (7..12).flat_map(|size| {
             (1..9).flat_map(move |most| (1..4).map(move |room| (size, most, room)))
         }) {
-            let failures = vec![most % 3, 2 * most, 5 * most];
-            let device = Device { text: text.as_bytes(), most, place: 0, failures };
-            let (read, told, failed, end) = by_reader(device, comma(), size, room);
+            let failures = [most % 3, 2 * most, 5 * most].map(|at| (at, ErrorKind::TimedOut));
+            let failing = device(text.as_bytes(), most, failures);
+            let (read, told, failed, end) = by_reader(failing, comma(), size, room);
             assert_eq!((&read, &told), (&rows, &faults), "{text:?} by {most} of {size}");
             assert!(end.is_none() && failed <= 3);
-            let device = Device { text: text.as_bytes(), most, place: 0, failures: vec![] };
-            let (read, told, failed, _) = by_reader(device, comma(), size, room);
+            let whole = device(text.as_bytes(), most, None);
+            let (read, told, failed, _) = by_reader(whole, comma(), size, room);
             assert_eq!((&read, &told, failed), (&rows, &faults, 0), "{text:?} by {most} of {size}");
         }
     }
@@ -231,7 +212,7 @@ fn readers_of_any_steps_tell_the_rows_and_places_of_the_whole() {
 #[test]
 fn many_bad_rows_and_long_ones() {
     let text = "x\n".repeat(5000) + "7,a\n" + &"y,b\n".repeat(3000);
-    let device = |text| Device { text, most: usize::MAX, place: 0, failures: vec![] };
+    let device = |text| device(text, usize::MAX, None);
     let (rows, faults, _, end) = by_reader(device(text.as_bytes()), comma(), 1 << 16, 4);
     assert!(rows == [7] && faults.len() == 8000 && end.is_none());
     assert!(faults.iter().enumerate().all(|(index, fault)| {
@@ -329,8 +310,8 @@ fn random_tables_row_by_row_and_in_blocks() {
         assert_eq!((&rows, bad.iter().map(known).collect()), (&by_row.0, by_row.1), "{text:?}");
         let faults: Vec<_> = bad.iter().map(|bad| bad.in_text(&text, &how)).collect();
         let (size, most) = (1 + random.below(30), 1 + random.below(7));
-        let device = Device { text: text.as_bytes(), most, place: 0, failures: vec![flags] };
-        let (read, told, _, end) = by_reader(device, how, size, 2);
+        let failing = device(text.as_bytes(), most, [(flags, ErrorKind::TimedOut)]);
+        let (read, told, _, end) = by_reader(failing, how, size, 2);
         no_rooms += usize::from(end.is_some());
         assert!(
             rows.starts_with(&read) && faults.starts_with(&told),

@@ -5,7 +5,10 @@ use jadvolni::{
     parse_table, parse_table_part, Dialect, Error, Format, Table, TableColumn, TableError,
     TableReadError, TableReader,
 };
-use std::io::{self, ErrorKind, Read};
+use std::io::ErrorKind;
+
+mod device;
+use device::{device, Device};
 
 const HOSTILE: [&str; 8] = [
     "",
@@ -17,31 +20,6 @@ const HOSTILE: [&str; 8] = [
     "1,a\nx,b\n",
     "70000,\n",
 ];
-
-/// A reader of a text that gives so many bytes at most, and fails once, before the byte at a place.
-struct Device<'a> {
-    text: &'a [u8],
-    most: usize,
-    place: usize,
-    failure: Option<(usize, ErrorKind)>,
-}
-
-impl Read for Device<'_> {
-    fn read(&mut self, block: &mut [u8]) -> io::Result<usize> {
-        let mut end = self.text.len().min(self.place + self.most.min(block.len()));
-        if let Some((at, kind)) = self.failure.filter(|(at, _)| *at <= end) {
-            end = at;
-            if at == self.place {
-                self.failure = None;
-                return Err(kind.into());
-            }
-        }
-        let given = &self.text[self.place..end];
-        block[..given.len()].copy_from_slice(given);
-        self.place = end;
-        Ok(given.len())
-    }
-}
 
 fn comma() -> Dialect<'static> {
     Dialect::separated_by(b',')
@@ -81,7 +59,7 @@ fn every_cut_gives_the_whole_table() {
         for (size, most, room) in (7..12).flat_map(|size| {
             (1..9).flat_map(move |most| (1..4).map(move |room| (size, most, room)))
         }) {
-            let device = Device { text: text.as_bytes(), most, place: 0, failure: None };
+            let device = device(text.as_bytes(), most, None);
             let (rows, told) = rows_of(device, comma(), size, room);
             assert!(numbers.starts_with(&rows), "{text} by {most} of {size}");
             match whole {
@@ -102,7 +80,7 @@ fn every_cut_gives_the_whole_table() {
 fn a_failed_read_is_told_and_gone_on_from() {
     let text = b"1,a\n22,b\n3,c";
     for place in 0..=text.len() {
-        let device = |kind| Device { text, most: 5, place: 0, failure: Some((place, kind)) };
+        let device = |kind| device(text, 5, Some((place, kind)));
         let (rows, told) = rows_of(device(ErrorKind::TimedOut), comma(), 9, 2);
         assert_eq!(rows, [1, 22, 3]);
         assert!(
@@ -115,13 +93,11 @@ fn a_failed_read_is_told_and_gone_on_from() {
 
 #[test]
 fn a_row_that_no_block_holds_is_told() {
-    let device = Device { text: b"1,a\n2,bbbbbbb\n", most: 99, place: 0, failure: None };
-    let (rows, told) = rows_of(device, comma(), 8, 4);
+    let (rows, told) = rows_of(device(b"1,a\n2,bbbbbbb\n", 99, None), comma(), 8, 4);
     assert_eq!(rows, [1]);
     assert!(matches!(told[..], [TableReadError::LongRow(4)]));
     assert_eq!(told[0].to_string(), "the row at byte 4 has more bytes than a block");
-    let device = Device { text: b"1,a\n2,bbbbbb", most: 99, place: 0, failure: None };
-    let (rows, told) = rows_of(device, comma(), 8, 4);
+    let (rows, told) = rows_of(device(b"1,a\n2,bbbbbb", 99, None), comma(), 8, 4);
     assert_eq!((rows, told.len()), (vec![1, 2], 0));
 }
 
@@ -129,7 +105,7 @@ fn a_row_that_no_block_holds_is_told() {
 fn blocks_of_skipped_rows_alone() {
     for (size, most) in (3..9).flat_map(|size| (1..9).map(move |most| (size, most))) {
         let text = b"\n\n\n\n\n\n\n\n\n7,\n\n\n\n\n\n\n\n\nx,";
-        let device = Device { text, most, place: 0, failure: None };
+        let device = device(text, most, None);
         let (rows, told) = rows_of(device, comma().skips_empty_rows(true), size, 4);
         let wrong = TableError { row: 1, column: 0, error: Error::InvalidDigit(20) };
         assert_eq!(rows, [7]);
@@ -198,7 +174,7 @@ fn slices_without_room_get_no_row() {
 #[test]
 fn a_block_has_one_byte_at_least() {
     for text in ["", "7", "7,8\n"] {
-        let device = || Device { text: text.as_bytes(), most: 9, place: 0, failure: None };
+        let device = || device(text.as_bytes(), 9, None);
         let by = |size| format!("{:?}", rows_of(device(), comma(), size, 4));
         assert_eq!(by(0), by(1), "{text}");
     }
@@ -255,7 +231,7 @@ fn records_from_a_reader() {
     for (size, most, room) in (3..9)
         .flat_map(|size| (1..9).flat_map(move |most| (1..4).map(move |room| (size, most, room))))
     {
-        let device = |text| Device { text, most, place: 0, failure: None };
+        let device = |text| device(text, most, None);
         let (rows, told) = rows_of(device(b"12a 7\n345"), records, size, room);
         assert_eq!((rows, told.len()), (vec![12, 7, 34], 0));
         let (rows, told) = rows_of(device(b"12a 7\n34"), records, size, room);
@@ -263,6 +239,6 @@ fn records_from_a_reader() {
         assert_eq!(rows, [12, 7]);
         assert!(matches!(told[..], [TableReadError::Table { error, .. }] if error == short));
     }
-    let device = Device { text: b"12a", most: 9, place: 0, failure: None };
-    assert!(matches!(rows_of(device, records, 1, 4).1[..], [TableReadError::LongRow(0)]));
+    let (_, told) = rows_of(device(b"12a", 9, None), records, 1, 4);
+    assert!(matches!(told[..], [TableReadError::LongRow(0)]));
 }
