@@ -1080,10 +1080,11 @@ typedef struct jadvolni_cells_result {
  *     cells     Where they are, from `first` on, as far as there is room. What lies behind that is as it
  *               was.
  *
- * By widths the cells are those that are wholly there, and one more where bytes are left. A row without
- * a byte has one cell, which is empty, or by widths none; a text without a byte has no row. An empty row
- * counts here, also where the table skips such, and what the cells hold isn't judged. In "ab;;\"c;d\"\r\n"
- * with quotes there are 3 cells, and from the column 1 on they are at 3 with 0 bytes and at 4 with 5.
+ * By widths the cells are those that are wholly there, and one more where bytes are left. Between
+ * separators a row without a byte has one cell, which is empty; a text without a byte has no row. An
+ * empty row counts here, also where the table skips such, and what the cells hold isn't judged. In
+ * "ab;;\"c;d\"\r\n", with quotes and returns, there are 3 cells, and from the column 1 on they are at 3
+ * with 0 bytes and at 4 with 5.
  *
  * What is asked of the text and of the table is as of jadvolni_row_place. `cells` points to `capacity`
  * structs that may be written, and may be NULL where that is 0. They lie in no other. The time is that of

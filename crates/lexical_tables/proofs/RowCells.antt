@@ -2,7 +2,7 @@
 use Rattle.std.proofs.Common.{◌≡◌, ◌∙◌, ℕ, suc, ◌+◌, ◌-◌, ◌<◌, ◌≤◌, List, [], ◌∷◌, ◌++◌, length, take, drop, map, set, cond, eqb, Bool, true, false, refl, ap, ap₂, sym, arith, inl, inr, length-append, length-drop}
 use Rattle.std.specs.Prelude.{nat_lt}
 use Rattle.std.proofs.lemmas.Bool.{cases_lt, le-ltb, lt-ltb}
-use Rattle.std.proofs.lemmas.List.{append-nil, drop-append-le, drop_all, length-map, map-append}
+use Rattle.std.proofs.lemmas.List.{drop-append-le, drop_all, length-map, map-append}
 use Rattle.lexical_fields.specs.Fields.{FieldView, fields_from, onto_field}
 use Rattle.lexical_tables.specs.ByColumn.{cells_by_width, cells_left, cells_of, lacks_cell}
 use Rattle.lexical_tables.specs.RowCells.{most_cells, place_of_cell}
@@ -13,7 +13,7 @@ use Rattle.lexical_tables.specs.declared.dialect.Dialect.{Dialect}
 use Rattle.lexical_tables.specs.declared.dialect.Layout.{Layout}
 use Rattle.lexical_tables.specs.declared.dialect.Layout.TheVariants.{Records, Separated, Widths}
 use Rattle.lexical_tables.specs.declared.row_cells.CellPlace.{CellPlace}
-use Rattle.lexical_tables.proofs.CellsLeft.{all_left, cells_begin, ended_left, left_in, next_left}
+use Rattle.lexical_tables.proofs.CellsLeft.{all_left, cells_begin, left_in, next_left}
 use Rattle.lexical_tables.proofs.SeenBytes.{seen_long}
 use Rattle.lexical_tables.proofs.skipped.Skipping.{append_one, long_one, put_none, put_one_more}
 
@@ -119,19 +119,6 @@ module _ (d : Dialect) (row : RowView) (first : ℕ) (old : List CellPlace) wher
     here_is = sym (ap (λ l. put_in_front l old) (drop_all first [] (omega arith)) ∙ put_none old);
   }
 
-  -- all in the end
-  module _ (here : List CellPlace) (column : ℕ) (ended : Bool) (rest : List ℕ) (now : ArePut here column ended rest)
-      (over : ended ≡ true) where
-    all_done : now.done ≡ cells_of d row
-    all_done =
-        sym (append-nil now.done) ∙ ap (λ l. now.done ++ l) (sym (ended_left d row column ended rest over)) ∙ now.done_are
-
-    pub all_counted : column ≡ length (cells_of d row)
-    all_counted = sym now.done_size ∙ ap length all_done
-
-    pub all_put : here ≡ put_in_front (places first (cells_of d row)) old
-    all_put = now.here_is ∙ ap (λ l. put_in_front (places first l) old) all_done
-
   -- one more
   module _ (zero : row.start ≡ 0) (here : List CellPlace) (column : ℕ) (ended : Bool) (rest : List ℕ)
       (now : ArePut here column ended rest) (some : ended ≡ false) (cell behind : List ℕ) (now_ended : Bool)
@@ -146,9 +133,7 @@ module _ (d : Dialect) (row : RowView) (first : ℕ) (old : List CellPlace) wher
         next_left d row column ended rest cell behind now_ended now.within some shorter cells
         ∙ ap (λ n. record { start = n; text = cell } ∷ left_in d row (column + 1) now_ended behind) (omega (arith, zero))
 
-    pub fewer : length (left_in d row (column + 1) now_ended behind) < length (left_in d row column ended rest)
-    fewer = omega (arith, ap length left_is)
-
+    -- its number is no large one
     pub few : (n : ℕ) → most_cells d.layout (length row.text) < n → column + 1 < n
     few n low = omega (
       arith,
