@@ -1053,6 +1053,47 @@ typedef struct jadvolni_row_result {
 jadvolni_row_result jadvolni_row_place(const char *text, size_t len, const jadvolni_table *table,
                                        size_t row) JADVOLNI_CHECKED_(3) JADVOLNI_TEXT_;
 
+/* Where a cell is, with its quotes and blanks. */
+typedef struct jadvolni_cell_place {
+    size_t start; /* the place of its first byte, counted from the start of the text that was read */
+    size_t size;  /* how many bytes it has */
+} jadvolni_cell_place;
+
+/* How many cells a row has. */
+typedef struct jadvolni_cells_result {
+    uint32_t status; /* a jadvolni_status */
+    size_t count;
+} jadvolni_cells_result;
+
+/*
+ * Where the cells of a row are: of the first row of the text, from the column `first` on, counted from 0.
+ * It is for the names of a header, and for the cell of a fault:
+ *
+ *     jadvolni_cell_place cell;
+ *     const char *row = text + bad.start;
+ *     size_t row_len = bad.stop - bad.start;
+ *     if (jadvolni_row_cells(row, row_len, &ledger, r.column, &cell, 1).count > r.column)
+ *         fprintf(stderr, "%.*s", (int)cell.size, row + cell.start);
+ *
+ *     status    JADVOLNI_OK, or JADVOLNI_INVALID_TABLE, and then the count is 0.
+ *     count     How many cells the row has, also those before `first` and those without room.
+ *     cells     Where they are, from `first` on, as far as there is room. What lies behind that is as it
+ *               was.
+ *
+ * By widths the cells are those that are wholly there, and one more where bytes are left. Between
+ * separators a row without a byte has one cell, which is empty; a text without a byte has no row. An
+ * empty row counts here, also where the table skips such, and what the cells hold isn't judged. In
+ * "ab;;\"c;d\"\r\n", with quotes and returns, there are 3 cells, and from the column 1 on they are at 3
+ * with 0 bytes and at 4 with 5.
+ *
+ * What is asked of the text and of the table is as of jadvolni_row_place. `cells` points to `capacity`
+ * structs that may be written, and may be NULL where that is 0. They lie in no other. The time is that of
+ * a walk over the row.
+ */
+jadvolni_cells_result jadvolni_row_cells(const char *text, size_t len, const jadvolni_table *table,
+                                         size_t first, jadvolni_cell_place *cells, size_t capacity)
+    JADVOLNI_CHECKED_(3) JADVOLNI_TEXT_ JADVOLNI_WRITES_(5, 6);
+
 /* A row at fault. */
 typedef struct jadvolni_bad_row {
     uint32_t status; /* a jadvolni_status: what is wrong with its first wrong cell */
@@ -1364,6 +1405,8 @@ JADVOLNI_ASSERT_(doubled_quotes_are_at_16, offsetof(jadvolni_cell_text, has_doub
 JADVOLNI_ASSERT_(table_result_has_32_bytes, sizeof(jadvolni_table_result) == 32);
 JADVOLNI_ASSERT_(column_is_at_8, offsetof(jadvolni_table_result, column) == 8);
 JADVOLNI_ASSERT_(row_result_has_24_bytes, sizeof(jadvolni_row_result) == 24);
+JADVOLNI_ASSERT_(cell_place_has_16_bytes, sizeof(jadvolni_cell_place) == 16);
+JADVOLNI_ASSERT_(cells_result_has_16_bytes, sizeof(jadvolni_cells_result) == 16);
 JADVOLNI_ASSERT_(bad_row_has_64_bytes, sizeof(jadvolni_bad_row) == 64);
 JADVOLNI_ASSERT_(bad_row_number_is_at_24, offsetof(jadvolni_bad_row, row) == 24);
 JADVOLNI_ASSERT_(bad_row_stop_is_at_56, offsetof(jadvolni_bad_row, stop) == 56);

@@ -189,21 +189,14 @@ private:
     // The names of a row, if it is one of the table, which the library judges by its own rules.
     bool read_names(std::string_view row)
     {
-        auto cells = cells_of(detail::content_of_row(row, how_));
-        std::vector<table_column> unread(cells.size());
+        std::vector<jadvolni_cell_place> cells(detail::put_cells(row, how_, 0, nullptr, 0));
+        detail::put_cells(row, how_, 0, cells.data(), cells.size());
+        std::vector<table_column> unread(how_.width_count ? how_.width_count : cells.size());
         auto judged = detail::read_table(row, true, how_, 1, unread.data(), unread.size());
         place_ += judged.place();
         if (!judged) return fail(std::string("the header is no row: ") + judged.message()), false;
-        for (auto cell : cells) names_.push_back(name_of(cell));
+        for (auto cell : cells) names_.push_back(name_of(detail::cell_of(row, cell, how_)));
         return true;
-    }
-
-    std::vector<std::string_view> cells_of(std::string_view row) const
-    {
-        std::vector<std::string_view> cells;
-        detail::row_cells rest(row, how_);
-        while (auto cell = rest.next()) cells.push_back(*cell);
-        return cells;
     }
 
     // What a cell holds, without its quotes and blanks.

@@ -67,61 +67,29 @@ inline std::string_view first_row(std::string_view text, const table &how) noexc
     return ends.ends_in(text.data(), text.size()) ? text.substr(0, ends.stop()) : text;
 }
 
-// Whether a carriage return before the line feed of a row is no byte of it.
-inline bool takes_returns(const table &how) noexcept
-{
-    return how.has_returns != 0 || how.allows_returns != 0;
-}
-
 // A row without what ends it.
 inline std::string_view content_of_row(std::string_view row, const table &how) noexcept
 {
     if (how.is_records || row.empty() || row.back() != '\n') return row;
     row.remove_suffix(1);
-    if (takes_returns(how) && !row.empty() && row.back() == '\r') row.remove_suffix(1);
+    const bool takes_returns = how.has_returns || how.allows_returns;
+    if (takes_returns && !row.empty() && row.back() == '\r') row.remove_suffix(1);
     return row;
 }
 
-// The cells of a row, one after the other: those of the table's widths, or those between separators outside quotes.
-class row_cells {
-public:
-    // Of a row without what ends it.
-    row_cells(std::string_view row, const table &how) noexcept : left_(row), how_(how) {}
+// How many cells a row has. Where those from a column on are goes to an array, as far as it has room.
+inline std::size_t put_cells(std::string_view row, const table &how, std::size_t first, jadvolni_cell_place *cells,
+                             std::size_t room) noexcept
+{
+    return jadvolni_row_cells(row.data(), row.size(), &how, first, cells, room).count;
+}
 
-    // The next cell; none behind the last.
-    std::optional<std::string_view> next() noexcept
-    {
-        if (is_over_ || (how_.width_count && column_ == how_.width_count)) return std::nullopt;
-        const auto size = how_.width_count ? std::min(how_.widths[column_], left_.size()) : size_by_separator();
-        const auto cell = left_.substr(0, size);
-        is_over_ = !how_.width_count && size == left_.size();
-        left_.remove_prefix(how_.width_count || is_over_ ? size : size + 1);
-        ++column_;
-        return cell;
-    }
-
-    // What stands behind the cells so far.
-    std::string_view left() const noexcept { return left_; }
-
-private:
-    // How many bytes stand before the next separator, or all that are left.
-    std::size_t size_by_separator() const noexcept
-    {
-        const auto separator = static_cast<char>(how_.separator);
-        const bool has_quotes = how_.has_quotes && separator != '"';
-        bool is_within = false;
-        for (std::size_t place = 0; place < left_.size(); ++place) {
-            is_within ^= has_quotes && left_[place] == '"';
-            if (left_[place] == separator && !is_within) return place;
-        }
-        return left_.size();
-    }
-
-    std::string_view left_;
-    const table &how_;
-    std::size_t column_ = 0;
-    bool is_over_ = false;
-};
+// The bytes of a cell of a row. What ends the row is none of them, also where a quote that nothing closes takes it.
+inline std::string_view cell_of(std::string_view row, jadvolni_cell_place place, const table &how) noexcept
+{
+    const auto content = content_of_row(row, how);
+    return content.substr(std::min(place.start, content.size()), place.size);
+}
 
 // Text of no more bytes than there is room for, as C has it.
 template <std::size_t Room>
@@ -290,23 +258,22 @@ private:
         row_stop_ = start + row.size();
         is_record_ = how.is_records != 0;
         if (has_place() && status() != status::too_few_cells && status() != status::missing_return)
-            put_cell(detail::content_of_row(row, how), how);
+            put_cell(row, how);
     }
 
-    // Takes down the cell that the fault is in, of a row without what ends it.
+    // Takes down the cell of a row that the fault is in.
     void put_cell(std::string_view row, const table &how) noexcept
     {
-        detail::row_cells cells(row, how);
-        auto cell = cells.next();
-        for (std::size_t column = 0; column < column_ && cell; ++column) cell = cells.next();
-        if (!cell) cell = cells.left(); // what is too much behind cells of given widths
-        const auto start = row_start_ + static_cast<std::size_t>(cell->data() - row.data());
-        if (place() < start || place() > start + cell->size()) return;
+        jadvolni_cell_place found{};
+        if (detail::put_cells(row, how, column_, &found, 1) <= column_) return;
+        const auto cell = detail::cell_of(row, found, how);
+        const auto start = row_start_ + found.start;
+        if (place() < start || place() > start + cell.size()) return;
         has_cell_ = true;
         place_in_cell_ = place() - start;
-        cell_size_ = cell->copy(cell_, sizeof cell_);
-        shown_size_ = detail::front_of(*cell, sizeof cell_).size();
-        is_cut_ = cell->size() > sizeof cell_;
+        cell_size_ = cell.copy(cell_, sizeof cell_);
+        shown_size_ = detail::front_of(cell, sizeof cell_).size();
+        is_cut_ = cell.size() > sizeof cell_;
     }
 
     // ---- in words

@@ -41,6 +41,7 @@ FIXED = ["", "_front"]
 # The structs of the header, by their names in the crate. jadvolni-sys has the header's names.
 STRUCTS = {"result": "Outcome", "format": "FormatFields", "uint128": "Unsigned128",
            "int128": "Signed128", "table_result": "TableOutcome", "row_result": "RowOutcome",
+           "cell_place": "CellPlace", "cells_result": "CellsOutcome",
            "bad_row": "BadRowFields", "skipping_result": "SkippingOutcome", "fixed": "FixedFields",
            "position": "LineAndColumn"}
 OF_RUST = {"uint8_t": "u8", "uint32_t": "u32", "uint64_t": "u64", "int64_t": "i64",
@@ -48,8 +49,8 @@ OF_RUST = {"uint8_t": "u8", "uint32_t": "u32", "uint64_t": "u64", "int64_t": "i6
 COLUMN_TYPES = [f"{sign}{size}" for sign in "ui" for size in (8, 16, 32, 64)]
 CALLS = sorted(["jadvolni_version", "jadvolni_format_error", "jadvolni_field_start",
                 "jadvolni_parse_literal", "jadvolni_parse_typed_literal", "jadvolni_parse_table",
-                "jadvolni_parse_table_skipping", "jadvolni_row_place", "jadvolni_fixed_error",
-                "jadvolni_line_column", "jadvolni_fold_quotes"]
+                "jadvolni_parse_table_skipping", "jadvolni_row_place", "jadvolni_row_cells",
+                "jadvolni_fixed_error", "jadvolni_line_column", "jadvolni_fold_quotes"]
                + [f"jadvolni_parse_{name}_fixed{form}" for name, form in product(TYPES, FIXED)]
                + [f"jadvolni_parse_{name}{form}" for name, form in product(TYPES, FORMS)]
                + [f"jadvolni_parse_{name}_column" for name in COLUMN_TYPES])
@@ -140,7 +141,8 @@ def layout() -> str:
     """The header, the crate and jadvolni-sys have the same fields in the same order, and calls."""
     crate = "".join(text_of("crates", "jadvolni", "src", f"{name}.rt")
                     for name in ("outcome", "format", "halves", "tables", "bad_rows",
-                                 "skipping", "fixed", "lines"))
+                                 "skipping", "row_cells", "fixed", "lines"))
+    crate += text_of("crates", "lexical_tables", "src", "row_cells.rt")
     crate = crate.replace("pub integer: FormatFields", "pub integer: jadvolni_format")
     bound = text_of("bindings", "rust", "jadvolni-sys", "src", "lib.rs")
     for name, of_crate in STRUCTS.items():

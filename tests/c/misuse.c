@@ -22,6 +22,11 @@ static uint64_t used_row(jadvolni_row_result r)
     return r.status + r.start + r.stop;
 }
 
+static uint64_t used_cells(jadvolni_cells_result r)
+{
+    return r.status + r.count;
+}
+
 static uint64_t used_skipping(jadvolni_skipping_result r)
 {
     return r.status + r.column + r.rows + r.bad_rows + r.place;
@@ -38,9 +43,10 @@ uint64_t misuse(void)
     jadvolni_table table = {.separator = ','};
     jadvolni_table_column column = {.format = JADVOLNI_FORMAT_STANDARD, .u64 = {values, 2}};
     jadvolni_bad_row bad[2] = {{0}, {0}};
+    jadvolni_cell_place cells[2] = {{0, 0}, {0, 0}};
     jadvolni_suffix suffixes[1] = {JADVOLNI_SUFFIX("u8", JADVOLNI_TYPE_U8)};
     size_t entry = 0;
-    (void)suffixes, (void)entry, (void)bad, (void)narrow, (void)count, (void)values, (void)text, (void)wide, (void)table, (void)column;
+    (void)suffixes, (void)entry, (void)bad, (void)cells, (void)narrow, (void)count, (void)values, (void)text, (void)wide, (void)table, (void)column;
 #if MISUSE == 0
     return used(jadvolni_parse_u64(text, 4, &value), value)
         + used(jadvolni_parse_u64_front_with_format(NULL, 0, FORMAT, &value), value)
@@ -54,6 +60,8 @@ uint64_t misuse(void)
         + used_table(jadvolni_parse_table(text, 4, true, &table, 2, &column, 1))
         + used_table(jadvolni_parse_table(NULL, 0, true, &table, 2, NULL, 0))
         + used_row(jadvolni_row_place(text, 4, &table, 1)) + used_row(jadvolni_row_place(NULL, 0, &table, 1))
+        + used_cells(jadvolni_row_cells(text, 4, &table, 0, cells, 2))
+        + used_cells(jadvolni_row_cells(NULL, 0, &table, 0, NULL, 0)) + cells[0].start
         + used_skipping(jadvolni_parse_table_skipping(text, 4, true, &table, 2, &column, 1, bad, 2))
         + used_skipping(jadvolni_parse_table_skipping(NULL, 0, true, &table, 2, NULL, 0, NULL, 0)) + values[1];
 #elif MISUSE == 1 /* gcc: stringop-overread, clang: user-defined-warnings */
@@ -138,5 +146,12 @@ uint64_t misuse(void)
     return used(jadvolni_parse_typed_literal(text, 4, FORMAT, NULL, 1, &wide, &count, &entry), wide.low);
 #elif MISUSE == 36 /* gcc: stringop-overread, clang: user-defined-warnings */
     return used(jadvolni_parse_typed_literal(text, 40, FORMAT, suffixes, 1, &wide, &count, &entry), wide.low);
+#elif MISUSE == 37 /* both: unused-result */
+    jadvolni_row_cells(text, 4, &table, 0, cells, 2);
+    return value;
+#elif MISUSE == 38 /* gcc: stringop-overflow */
+    return used_cells(jadvolni_row_cells(text, 4, &table, 0, cells, 3));
+#elif MISUSE == 39 /* gcc: stringop-overread, clang: user-defined-warnings */
+    return used_cells(jadvolni_row_cells(text, 40, &table, 0, cells, 2));
 #endif
 }

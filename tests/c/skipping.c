@@ -1,4 +1,5 @@
-/* The calls of jadvolni.h for bad rows: where a row is, and a table whose bad rows are skipped, worked by hand. */
+/* The calls of jadvolni.h for rows and for bad ones: where a row and its cells are, and a table whose bad rows are
+ * skipped, worked by hand. */
 #include "jadvolni.h"
 #include "check.h"
 
@@ -44,6 +45,51 @@ static void places(void)
     CHECK(r.status == JADVOLNI_INVALID_TABLE && r.start == 0 && r.stop == 0);
     lines.reserved[8] = 1;
     CHECK(jadvolni_row_place("1\n2", 3, &lines, 1).status == JADVOLNI_INVALID_TABLE);
+}
+
+/* ---- where its cells are */
+
+/* The first row of a text has so many cells, of which the one of a column is at a place with so many bytes. */
+static int has_cell(const char *text, size_t len, jadvolni_table table, size_t count, size_t column, size_t start,
+                    size_t size)
+{
+    char *bytes = exactly(text, len);
+    jadvolni_cell_place cells[2] = {{99, 99}, {99, 99}};
+    jadvolni_cells_result r = jadvolni_row_cells(bytes, len, &table, column, cells, 1);
+    free(bytes);
+    if (r.status == JADVOLNI_OK && r.count == count && cells[0].start == start && cells[0].size == size
+        && cells[1].start == 99 && cells[1].size == 99)
+        return 1;
+    fprintf(stderr, "%s, %zu cells, at %zu with %zu bytes\n", jadvolni_status_name(r.status), r.count, cells[0].start,
+            cells[0].size);
+    return 0;
+}
+
+#define HAS_CELL(text, ...) CHECK(has_cell(text, sizeof(text) - 1, __VA_ARGS__))
+
+static void cells_of_rows(void)
+{
+    jadvolni_table lines = {.separator = ';'}, quotes = {.separator = ';', .has_quotes = 1, .allows_returns = 1};
+    HAS_CELL("ab;;\"c;d\"\r\n1;2;3", quotes, 3, 0, 0, 2);
+    HAS_CELL("ab;;\"c;d\"\r\n1;2;3", quotes, 3, 1, 3, 0);
+    HAS_CELL("ab;;\"c;d\"\r\n1;2;3", quotes, 3, 2, 4, 5);
+    HAS_CELL("ab;;\"c;d\"\r\n1;2;3", quotes, 3, 3, 99, 99);
+    HAS_CELL("ab;;\"c;d\"\r\n1;2;3", lines, 4, 3, 7, 3);
+    HAS_CELL("a;\"b;c\nd", quotes, 2, 1, 2, 6);
+    HAS_CELL("\nab", lines, 1, 0, 0, 0);
+    HAS_CELL("", lines, 0, 0, 99, 99);
+    static const size_t widths[] = {3, 2};
+    jadvolni_table wide = {.widths = widths, .width_count = 2}, wrong = {.is_records = 1};
+    HAS_CELL("007ab\n", wide, 2, 1, 3, 2);
+    HAS_CELL("007a\n", wide, 1, 1, 99, 99);
+    HAS_CELL("007abxyz\n", wide, 3, 2, 5, 3);
+    wide.is_records = 1;
+    HAS_CELL("007ab007cd", wide, 2, 1, 3, 2);
+    jadvolni_cell_place cells[2] = {{99, 99}, {99, 99}};
+    CHECK(jadvolni_row_cells("a;bc", 4, &lines, 0, cells, 2).count == 2 && cells[1].start == 2 && cells[1].size == 2);
+    CHECK(jadvolni_row_cells("a;bc", 4, &lines, 0, NULL, 0).count == 2);
+    jadvolni_cells_result r = jadvolni_row_cells("1", 1, &wrong, 0, cells, 1);
+    CHECK(r.status == JADVOLNI_INVALID_TABLE && r.count == 0 && cells[0].start == 0 && cells[0].size == 1);
 }
 
 /* ---- bad rows */
@@ -167,6 +213,7 @@ static void faults_of_tables(void)
 int main(void)
 {
     places();
+    cells_of_rows();
     rows();
     parts();
     faults_of_tables();

@@ -1,5 +1,6 @@
 /*
- * cells.c - what is told of bad rows: where they are, and the first bytes of their wrong cells.
+ * cells.c - the cells of a row, and what is told of bad rows: where they are, and the first bytes of their
+ * wrong cells.
  */
 #include "core.h"
 
@@ -12,65 +13,16 @@ typedef struct stretch {
     size_t stop;
 } stretch;
 
-/* Whether quotes hide the separators of a table. */
-static int hides(const jadvolni_table *table)
-{
-    return table->has_quotes && table->separator != '"';
-}
-
-/* Where a row has the cell of a column, by the widths of those before it. */
-static size_t start_by_widths(const jadvolni_bad_row *bad, const jadvolni_table *table)
-{
-    size_t at = bad->start;
-    for (size_t k = 0; k < bad->column && k < table->width_count; k++)
-        at = table->widths[k] < bad->place - at ? at + table->widths[k] : bad->place;
-    return at;
-}
-
-/* Where the cell of a fault starts: behind the last separator before its place. */
-static size_t cell_start(const char *text, const jadvolni_bad_row *bad, const jadvolni_table *table)
-{
-    if (table->width_count)
-        return start_by_widths(bad, table);
-    if (!hides(table))
-        return bad->start
-             + jadvolni_field_start(text + bad->start, bad->place - bad->start, table->separator);
-    size_t start = bad->start;
-    int is_within = 0;
-    for (size_t k = bad->start; k < bad->place; k++) {
-        is_within ^= text[k] == '"';
-        if (!is_within && (uint8_t)text[k] == table->separator)
-            start = k + 1;
-    }
-    return start;
-}
-
-/* Where a cell stops that starts at a place of a row, if that is no more than so many bytes further. */
-static size_t cell_stop(const char *text, size_t start, const jadvolni_bad_row *bad,
-                        const jadvolni_table *table)
-{
-    size_t most = bad->stop - start < TOLD + 1 ? bad->stop : start + TOLD + 1, stop = start;
-    if (bad->column < table->width_count && table->widths[bad->column] < most - start)
-        most = start + table->widths[bad->column];
-    for (int is_within = 0; stop < most; stop++) {
-        is_within ^= table->has_quotes && text[stop] == '"';
-        int ends = text[stop] == '\n' && !is_within && !table->is_records;
-        int parts = (uint8_t)text[stop] == table->separator && !(is_within && hides(table));
-        if (ends || (parts && !table->width_count))
-            break;
-    }
-    int may_return = table->has_returns || table->allows_returns;
-    int is_ended = stop < bad->stop && text[stop] == '\n' && may_return;
-    return stop - (is_ended && stop > start && text[stop - 1] == '\r');
-}
-
 /* Where the wrong cell of a row is; where none is wrong, but one or the return missing, it has no byte. */
 static stretch cell_of(const char *text, const jadvolni_bad_row *bad, const jadvolni_table *table)
 {
-    if (bad->status == JADVOLNI_TOO_FEW_CELLS || bad->status == JADVOLNI_MISSING_RETURN)
+    jadvolni_cell_place cell;
+    if (bad->status == JADVOLNI_TOO_FEW_CELLS || bad->status == JADVOLNI_MISSING_RETURN
+        || jadvolni_row_cells(text + bad->start, bad->stop - bad->start, table, bad->column, &cell, 1)
+               .count <= bad->column)
         return (stretch){bad->place, bad->place};
-    size_t start = cell_start(text, bad, table);
-    return (stretch){start, cell_stop(text, start, bad, table)};
+    size_t start = bad->start + cell.start;
+    return (stretch){start, start + (cell.size < TOLD + 1 ? cell.size : TOLD + 1)};
 }
 
 /* Where a row stops, without the empty ones that are skipped behind it: with a block they may not have come. */
@@ -116,4 +68,36 @@ PyObject *faults_of(const jadvolni_bad_row *bad, size_t count, const borrowed_te
             Py_CLEAR(faults);
     }
     return faults;
+}
+
+/* The bytes of cells of a row. */
+static PyObject *bytes_of(const char *row, const jadvolni_cell_place *cells, size_t count)
+{
+    PyObject *list = PyList_New((Py_ssize_t)count);
+    for (size_t k = 0; list && k < count; k++) {
+        PyObject *one = PyBytes_FromStringAndSize(row + cells[k].start, (Py_ssize_t)cells[k].size);
+        if (!one || PyList_SetItem(list, (Py_ssize_t)k, one) < 0)
+            Py_CLEAR(list);
+    }
+    return list;
+}
+
+PyObject *row_cells(PyObject *module, PyObject *args)
+{
+    (void)module;
+    jadvolni_table table = {0};
+    const char *row;
+    Py_ssize_t len;
+    int has_quotes;
+    if (!PyArg_ParseTuple(args, "y#bp", &row, &len, &table.separator, &has_quotes))
+        return NULL;
+    table.has_quotes = (uint8_t)has_quotes;
+    size_t count = jadvolni_row_cells(row, (size_t)len, &table, 0, NULL, 0).count;
+    jadvolni_cell_place *cells = PyMem_New(jadvolni_cell_place, count);
+    if (!cells)
+        return PyErr_NoMemory();
+    count = jadvolni_row_cells(row, (size_t)len, &table, 0, cells, count).count;
+    PyObject *list = bytes_of(row, cells, count);
+    PyMem_Free(cells);
+    return list;
 }

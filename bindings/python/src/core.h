@@ -3,10 +3,9 @@
  *
  * The library reads the texts. `types.c` has the types of numbers, `faults.c` the exceptions, `bounds.c` the
  * bounds of a number, `arguments.c` what the calls are given, `columns.c` columns, `tables.c` tables, `apart.c`
- * whether their arrays have memory of their own, `rows.c` where their rows end, `cells.c` their cells at
- * fault, `texts.c` their texts, `arrow.c` tables for Arrow, `literals.c` literals, and `_core.c` the other calls
- * and the module.
- * `Format` and `Fixed` are Python, and hand their bytes over as `_fields` and `_fixed`.
+ * whether their arrays have memory of their own, `rows.c` where their rows end, `cells.c` the cells of a row
+ * and those at fault, `texts.c` their texts, `arrow.c` tables for Arrow, `literals.c` literals, and `_core.c` the
+ * other calls and the module. `Format` and `Fixed` are Python, and hand their bytes over as `_fields` and `_fixed`.
  */
 #ifndef JADVOLNI_PYTHON_CORE_H
 #define JADVOLNI_PYTHON_CORE_H
@@ -224,6 +223,9 @@ PyObject *row_stops(PyObject *module, PyObject *args);
  * and the first bytes of its wrong cell. */
 PyObject *faults_of(const jadvolni_bad_row *bad, size_t count, const borrowed_text *part, size_t before,
                     const jadvolni_table *table);
+
+/* The cells of a row between separators: _row_cells(row, separator, has_quotes). */
+PyObject *row_cells(PyObject *module, PyObject *args);
 
 /* ---- apart.c ---- */
 

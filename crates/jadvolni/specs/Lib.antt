@@ -6,5 +6,6 @@ pub mod Fixed
 pub mod FormatFields
 pub mod Halves
 pub mod Literals
+pub mod RowCells
 pub mod Skipping
 pub mod Tables

@@ -15,6 +15,7 @@ pub mod halves;
 pub mod lines;
 pub mod literals;
 pub mod outcome;
+pub mod row_cells;
 pub mod signed;
 pub mod skipping;
 pub mod slot;

@@ -1,10 +1,10 @@
 -- The cells of what is left of a row: the first, and those behind it.
-use Rattle.std.proofs.Common.{◌≡◌, ◌∙◌, ℕ, ◌+◌, ◌-◌, ◌≤◌, List, [], ◌∷◌, length, take, drop, Bool, true, false, not, cond, eqb, Option, Some, refl, ap, sym, arith, length-drop, length-take-le}
+use Rattle.std.proofs.Common.{◌≡◌, ◌∙◌, ℕ, ◌+◌, ◌-◌, ◌≤◌, List, [], ◌∷◌, length, take, drop, Bool, true, false, not, cond, eqb, Option, Some, refl, ap, sym, subst, arith, length-drop, length-take-le}
 use Rattle.std.specs.Bool.{then_some}
 use Rattle.std.specs.Prelude.{nat_lt}
 use Rattle.lexical_fields.specs.Fields.{FieldView}
 use Rattle.lexical_tables.specs.ByColumn.{cells_by_width, cells_left, cells_of, first_start, lacks_cell, lacks_width}
-use Rattle.lexical_tables.specs.Quotes.{length_outside}
+use Rattle.lexical_tables.specs.Quotes.{length_outside, pieces_outside}
 use Rattle.lexical_tables.specs.RowSoFar.{cells_behind}
 use Rattle.lexical_tables.specs.Rows.{RowView}
 use Rattle.lexical_tables.specs.declared.dialect.Dialect.{Dialect}
@@ -54,6 +54,20 @@ starts_left (Separated s columns) q column place text there =
     (length-take-le n text (outside_within q s text)))
 starts_left (Widths widths) q column place text there = starts_by_width (drop column widths.now) place text there
 starts_left (Records widths) q column place text there = starts_by_width (drop column widths.now) place text there
+
+-- the first cell between separators, and those behind it
+pub next_separated : (layout : Layout) (s columns : ℕ) → layout ≡ Separated s columns → (q : Bool) (column place : ℕ)
+    (rest cell behind : List ℕ) (ended : Bool) → cell ≡ take (length_outside q s rest) rest
+    → behind ≡ drop (length_outside q s rest + 1) rest → length cell ≡ length_outside q s rest
+    → ended ≡ eqb (length cell) (length rest)
+    → cells_left layout q column place rest ≡ record { start = place; text = cell }
+    ∷ cond ended [] (cells_left layout q (column + 1) (place + (length rest - length behind)) behind)
+next_separated layout s columns is q column place rest cell behind ended front back size ends =
+    let at = place + (length rest - length behind) in
+    subst (λ l. cells_left l q column place rest ≡ record { start = place; text = cell }
+    ∷ cond ended [] (cells_left l q (column + 1) at behind)) (sym is)
+    (next_piece q s place rest cell behind front back size
+    ∙ ap (λ t. record { start = place; text = cell } ∷ cond t [] (pieces_outside q s at behind)) (sym ends))
 
 -- ---- of a row that is read
 

@@ -29,6 +29,7 @@ pub mod QuoteSteps
 pub mod QuotesUnread
 pub mod ReadAlone
 pub mod RecordSteps
+pub mod RowCells
 pub mod RowSteps
 pub mod RowsInParts
 pub mod SeenBytes

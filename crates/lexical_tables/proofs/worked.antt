@@ -2,6 +2,7 @@
 pub mod CellRows
 pub mod FoldRows
 pub mod KindRows
+pub mod PlaceRows
 pub mod RecordRows
 pub mod ReturnRows
 pub mod WidthRows

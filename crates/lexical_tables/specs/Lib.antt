@@ -12,6 +12,7 @@ pub mod Places
 pub mod Quotes
 pub mod Readings
 pub mod RowSoFar
+pub mod RowCells
 pub mod Rows
 pub mod Skipping
 pub mod Targets

@@ -1,7 +1,8 @@
 //! The cells of a row, found one after another.
 
-ghost use Rattle.std.specs.Prelude.{◌≡◌, ◌≢◌, ◌==◌, ◌+◌, ◌-◌, ◌<◌, ◌≤◌, ℕ, [], ◌∷◌, IsTrue, false, length, take, drop, slice_index, if◌then◌else◌};
+ghost use Rattle.std.specs.Prelude.{◌≡◌, ◌≢◌, ◌==◌, ◌+◌, ◌-◌, ◌<◌, ◌≤◌, ◌^◌, ℕ, [], ◌∷◌, IsTrue, false, length, take, drop, slice_index, if◌then◌else◌};
 ghost use Rattle.lexical_tables.specs.ByColumn.{cells_by_width, cells_left, column_count, lacks_cell, lacks_width};
+ghost use Rattle.lexical_tables.specs.RowCells.{most_cells};
 ghost use Rattle.lexical_tables.specs.Quotes.{length_outside, quote};
 
 use crate::dialect::{Dialect, Layout};
@@ -23,7 +24,8 @@ pub(crate) fn column_count(dialect: &Dialect<'_>) -> usize
 // byte is left.
 #[inline(always)]
 fn lacks_width(text: &[u8], column: usize, widths: &[usize]) -> bool
-    ensures { result ≡ lacks_width (drop column widths.now) text.now }
+    ensures lacks { result ≡ lacks_width (drop column widths.now) text.now }
+    ensures fits { length widths.now + 1 < 2 ^ 64 }
 {
     if column < widths.len() {
         text.len() < widths[column]
@@ -35,7 +37,8 @@ fn lacks_width(text: &[u8], column: usize, widths: &[usize]) -> bool
 // Whether what is left of a row behind so many cells has none.
 #[inline(always)]
 pub(crate) fn lacks_cell(text: &[u8], column: usize, dialect: &Dialect<'_>) -> bool
-    ensures { result ≡ lacks_cell dialect.now.layout column text.now }
+    ensures lacks { result ≡ lacks_cell dialect.now.layout column text.now }
+    ensures fits { most_cells dialect.now.layout (length text.now) < 2 ^ 64 }
 {
     match dialect.layout {
         Layout::Separated { .. } => false,
@@ -54,7 +57,7 @@ pub(crate) struct NextCell<'a> {
 
 // The first cell of what is left of a row behind so many cells that have widths, if it has one.
 #[inline(always)]
-fn wide_cell<'a>(rest: &'a [u8], column: usize, widths: &[usize]) -> NextCell<'a>
+pub(crate) fn wide_cell<'a>(rest: &'a [u8], column: usize, widths: &[usize]) -> NextCell<'a>
     requires column { column < length widths.now }
     requires there { lacks_width (drop column widths.now) rest.now ≡ false }
     ensures cells { (place : ℕ) → cells_by_width (drop column widths.now) place rest.now
@@ -81,7 +84,7 @@ fn wide_cell<'a>(rest: &'a [u8], column: usize, widths: &[usize]) -> NextCell<'a
 
 // The first cell of what is left of a row, if it has so many bytes, and whether it was seen that none of them is a quote.
 #[inline(always)]
-fn sized_cell(rest: &[u8], size: usize, has_no_quote: bool) -> NextCell<'_>
+pub(crate) fn sized_cell(rest: &[u8], size: usize, has_no_quote: bool) -> NextCell<'_>
     requires within { size ≤ length rest.now }
     ensures front { result.text.now ≡ take size rest.now }
     ensures behind { result.behind.now ≡ drop (size + 1) rest.now }
@@ -109,7 +112,12 @@ fn sized_cell(rest: &[u8], size: usize, has_no_quote: bool) -> NextCell<'_>
 
 // The first cell of what is left of a row, whose separators are searched for. What is ahead begins with that.
 #[inline(always)]
-fn parted_cell<'a>(rest: &'a [u8], ahead: &[u8], separator: u8, has_quotes: bool) -> NextCell<'a>
+pub(crate) fn parted_cell<'a>(
+    rest: &'a [u8],
+    ahead: &[u8],
+    separator: u8,
+    has_quotes: bool,
+) -> NextCell<'a>
     requires rest { rest.now ≡ take (length rest.now) ahead.now }
     ensures front { result.text.now
         ≡ take (length_outside has_quotes separator rest.now) rest.now }

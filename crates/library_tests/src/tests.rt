@@ -7,6 +7,7 @@ mod lines;
 mod literals;
 mod parser;
 mod readers;
+mod row_cells;
 mod tables;
 mod util;
 

@@ -6,7 +6,7 @@ from collections import Counter
 from itertools import chain
 from typing import TYPE_CHECKING, Iterator, Sequence
 
-from ._core import _row_ends
+from ._core import _row_cells, _row_ends
 from ._faults import Part
 
 if TYPE_CHECKING:
@@ -28,19 +28,6 @@ def byte_of(separator: Text) -> bytes:
     return byte
 
 
-def _cells(line: bytes, separator: bytes, has_quotes: bool) -> Iterator[bytes]:
-    """The cells of a line, between separators that stand outside quotes, if all quotes close."""
-    asks = has_quotes and separator != b'"' and line.count(b'"') % 2 == 0
-    parts: list[bytes] = []
-    quotes = 0
-    for part in line.split(separator):
-        parts.append(part)
-        quotes += part.count(b'"') if asks else 0
-        if quotes % 2 == 0:
-            yield separator.join(parts)
-            parts = []
-
-
 def _name(cell: bytes, how: How) -> str:
     """The name that a cell has."""
     if how.allows_blanks:
@@ -57,7 +44,9 @@ def names_of(line: bytes, how: How) -> list[str]:
     if how.has_returns or (how.allows_returns and is_ended):
         line = line.removesuffix(b"\r")
     separator = byte_of(b"," if how.separator is None else how.separator)
-    return [_name(cell, how) for cell in _cells(line, separator, bool(how.has_quotes))]
+    # Quotes have a meaning if all of them close.
+    has_quotes = bool(how.has_quotes) and line.count(b'"') % 2 == 0
+    return [_name(cell, how) for cell in _row_cells(line + b"\n", separator[0], has_quotes)]
 
 
 def ask_header(how: How, header: bool) -> None:

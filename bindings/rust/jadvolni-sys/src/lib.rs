@@ -133,6 +133,22 @@ pub struct jadvolni_row_result {
     pub stop: usize,
 }
 
+/// Where a cell is, with its quotes and blanks.
+#[repr(C)]
+#[derive(Debug, Copy, Clone, PartialEq, Eq, Default)]
+pub struct jadvolni_cell_place {
+    pub start: usize,
+    pub size: usize,
+}
+
+/// How many cells a row has.
+#[repr(C)]
+#[derive(Debug, Copy, Clone, PartialEq, Eq)]
+pub struct jadvolni_cells_result {
+    pub status: u32,
+    pub count: usize,
+}
+
 /// A row at fault.
 #[repr(C)]
 #[derive(Debug, Copy, Clone, PartialEq, Eq)]
@@ -229,6 +245,7 @@ const _: () = {
         size_of::<jadvolni_table_result>() == 32 && offset_of!(jadvolni_table_result, column) == 8
     );
     assert!(size_of::<jadvolni_row_result>() == 24);
+    assert!(size_of::<jadvolni_cell_place>() == 16 && size_of::<jadvolni_cells_result>() == 16);
     assert!(size_of::<jadvolni_bad_row>() == 64 && offset_of!(jadvolni_bad_row, row) == 24);
     assert!(
         size_of::<jadvolni_skipping_result>() == 40
@@ -343,6 +360,7 @@ extern "C" {
     pub fn jadvolni_parse_table(text: *const c_char, len: usize, is_last: bool, table: *const jadvolni_table, capacity: usize, columns: *mut jadvolni_table_column, column_count: usize) -> jadvolni_table_result;
     pub fn jadvolni_parse_table_skipping(text: *const c_char, len: usize, is_last: bool, table: *const jadvolni_table, capacity: usize, columns: *mut jadvolni_table_column, column_count: usize, bad: *mut jadvolni_bad_row, bad_capacity: usize) -> jadvolni_skipping_result;
     pub fn jadvolni_row_place(text: *const c_char, len: usize, table: *const jadvolni_table, row: usize) -> jadvolni_row_result;
+    pub fn jadvolni_row_cells(text: *const c_char, len: usize, table: *const jadvolni_table, first: usize, cells: *mut jadvolni_cell_place, capacity: usize) -> jadvolni_cells_result;
     pub fn jadvolni_fixed_error(fixed: *const jadvolni_fixed) -> u32;
     pub fn jadvolni_parse_u8_fixed(text: *const c_char, len: usize, fixed: *const jadvolni_fixed, value: *mut u8) -> jadvolni_result;
     pub fn jadvolni_parse_u8_fixed_front(text: *const c_char, len: usize, fixed: *const jadvolni_fixed, value: *mut u8) -> jadvolni_result;

@@ -3,7 +3,7 @@
 extern crate std;
 
 use crate::cell_text::folded;
-use crate::cells::{cells_of, content_of_row};
+use crate::cells::{cell_of, content_of_row, put_cells, CellPlace};
 use crate::row_ends::RowEnds;
 use crate::{
     parse_table, parse_table_skipping, row_place, BadRow, Dialect, Skipping, Table, TableColumn,
@@ -152,12 +152,17 @@ impl Header {
         if row.is_empty() {
             return Err(HeaderError::NoHeader);
         }
-        let content = content_of_row(row, dialect);
-        let names: Vec<_> =
-            cells_of(content, dialect).map(|cell| name_of(&content[cell], dialect)).collect();
-        let mut unread: Vec<_> = names.iter().map(|_| TableColumn::UNREAD).collect();
+        let mut cells = vec![CellPlace::default(); put_cells(row, dialect, 0, &mut [])];
+        put_cells(row, dialect, 0, &mut cells);
+        let columns = match dialect.0.width_count {
+            0 => cells.len(),
+            widths => widths,
+        };
+        let mut unread: Vec<_> = (0..columns).map(|_| TableColumn::UNREAD).collect();
         // The library judges the row by its own rules.
         parse_table(row, dialect, &mut unread).map_err(HeaderError::Invalid)?;
+        let name = |cell| name_of(cell_of(row, cell, dialect), dialect);
+        let names = cells.into_iter().map(name).collect();
         Ok(Header { names, stop: row.len() })
     }
 

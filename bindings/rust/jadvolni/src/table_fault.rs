@@ -3,7 +3,7 @@
 #[cfg(feature = "std")]
 extern crate std;
 
-use crate::cells::{cells_of, content_of_row};
+use crate::cells::{cell_of, put_cells, CellPlace};
 use crate::row_ends::RowEnds;
 use crate::{Dialect, Error, Excerpt, Position, TableError};
 use core::fmt;
@@ -62,12 +62,13 @@ impl Cell {
         if matches!(error.error, Error::TooFewCells(_) | Error::MissingReturn(_)) {
             return None;
         }
-        let content = content_of_row(row, dialect);
-        // Behind the cells of given widths stands what is too much.
-        let behind = place.min(content.len())..content.len();
-        let found = cells_of(content, dialect).nth(error.column).unwrap_or(behind);
-        let place = place.checked_sub(found.start).filter(|place| *place <= found.len())?;
-        Some(Cell { text: Excerpt::of(&content[found]), place })
+        let mut found = [CellPlace::default()];
+        if put_cells(row, dialect, error.column, &mut found) <= error.column {
+            return None;
+        }
+        let text = cell_of(row, found[0], dialect);
+        let place = place.checked_sub(found[0].start).filter(|place| *place <= text.len())?;
+        Some(Cell { text: Excerpt::of(text), place })
     }
 }
 

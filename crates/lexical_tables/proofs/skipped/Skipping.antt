@@ -17,7 +17,7 @@ use Rattle.lexical_tables.proofs.skipped.RowPlaces.{IsBehindRow, IsPassedTo, nex
 
 -- ---- values that are put in front
 
-put_none : {A : Type 0} (old : List A) → put_in_front [] old ≡ old
+pub put_none : {A : Type 0} (old : List A) → put_in_front [] old ≡ old
 put_none {A} [] = refl
 put_none {A} (x ∷ xs) = refl
 
@@ -33,7 +33,7 @@ put_one_more {A} [] value (x ∷ xs) = ap (λ l. value ∷ l) (sym (take_none (l
 put_one_more {A} (v ∷ vs) value [] = refl
 put_one_more {A} (v ∷ vs) value (x ∷ xs) = ap (λ l. v ∷ l) (put_one_more vs value xs)
 
-append_one : {A : Type 0} (front : List A) (value : A) (more : List A) → (front ++ value ∷ []) ++ more ≡ front ++ value ∷ more
+pub append_one : {A : Type 0} (front : List A) (value : A) (more : List A) → (front ++ value ∷ []) ++ more ≡ front ++ value ∷ more
 append_one {A} [] value more = refl
 append_one {A} (x ∷ xs) value more = ap (λ l. x ∷ l) (append_one xs value more)
 
@@ -41,7 +41,7 @@ append_none : {A : Type 0} (front : List A) → front ++ [] ≡ front
 append_none {A} [] = refl
 append_none {A} (x ∷ xs) = ap (λ l. x ∷ l) (append_none xs)
 
-long_one : {A : Type 0} (front : List A) (value : A) → length (front ++ value ∷ []) ≡ length front + 1
+pub long_one : {A : Type 0} (front : List A) (value : A) → length (front ++ value ∷ []) ≡ length front + 1
 long_one {A} [] value = refl
 long_one {A} (x ∷ xs) value = omega (arith, long_one xs value)
 

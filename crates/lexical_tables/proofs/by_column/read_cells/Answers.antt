@@ -18,13 +18,13 @@ loop-column-init g c =
     let all = take_rest text c.args.passed in (
       subst (IsAhead text c.args.ahead.now) (sym all)
           (ahead_starts text c.args.ahead.now c.args.passed c.requires.passed c.requires.front),
-      λ some. sym c.lacks_cell-ended.ensures ∙ some,
+      λ some. sym c.lacks_cell-ended.ensures.lacks ∙ some,
       c.requires.usable,
       λ kinds old put. subst (IsRowPut kinds c.args.dialect.now c.args.index row old
           (map g.C.TableColumn.target c.args.targets.now) c.args.first)
           (sym (ap (left_in c.args.dialect.now row c.args.first c.lacks_cell-ended.result) all
           ∙ all_left c.args.dialect.now row c.args.first c.args.passed c.requires.passed c.lacks_cell-ended.result
-          (c.lacks_cell-ended.ensures ∙ ap (lacks_cell c.args.dialect.now.layout c.args.first) all))) put,
+          (c.lacks_cell-ended.ensures.lacks ∙ ap (lacks_cell c.args.dialect.now.layout c.args.first) all))) put,
     )
 
 pub returns-in-Some : goal.returns-in-Some
