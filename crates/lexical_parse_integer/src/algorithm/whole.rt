@@ -142,7 +142,7 @@ fn standard_answer<T: Integer>(bytes: &[u8]) -> Result<T>
 // By calls that know the format: each answers in registers.
 /// The integer that the whole text stands for under the standard format, for a text that `value_for_format` has left.
 #[inline(always)]
-pub fn standard_if_left<T: Integer>(bytes: &[u8]) -> Result<T>
+pub fn complete_standard<T: Integer>(bytes: &[u8]) -> Result<T>
     ensures { view_of T.number result ≡ complete standard T.TYPE bytes.now }
 {
     if let Some(value) = standard_behind_plus::<T>(bytes) {
@@ -195,7 +195,7 @@ fn plain_answer<T: Integer>(bytes: &[u8], format: &NumberFormat) -> Result<T>
 /// The integer that the whole text stands for under a format that may be invalid, for a text that `value_if_short` has
 /// left: it isn't read as short decimal digits again.
 #[inline(always)]
-pub fn complete_under_if_not_short<T: Integer>(bytes: &[u8], format: &NumberFormat) -> Result<T>
+pub fn complete_if_valid<T: Integer>(bytes: &[u8], format: &NumberFormat) -> Result<T>
     ensures { view_of T.number result ≡ complete_if_valid format.now T.TYPE bytes.now }
 {
     if is_plain(format) {
@@ -285,7 +285,7 @@ fn is_left_to_front(bytes: &[u8], format: &NumberFormat) -> bool {
 /// as short decimal digits again. The readers of values stand in the caller's place, as a loop over texts wants.
 #[inline(always)]
 #[tactic(auto, using(crate::proofs::plain::DigitsAlone::valid_answer))]
-pub fn complete_valid_if_not_short<T: Integer>(bytes: &[u8], format: &NumberFormat) -> Result<T>
+pub fn complete_valid<T: Integer>(bytes: &[u8], format: &NumberFormat) -> Result<T>
     requires valid { IsNone (fault format.now) }
     ensures { view_of T.number result ≡ complete format.now T.TYPE bytes.now }
 {
