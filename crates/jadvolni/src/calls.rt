@@ -12,7 +12,7 @@ use crate::format::FormatFields;
 use crate::outcome::{Outcome, UNKNOWN_FIELD};
 use crate::slot::Slot;
 use lexical_parse_integer::quick::{
-    complete_if_not_short, complete_under_if_not_short, front_if_plain, value_if_short,
+    complete_if_valid, complete_standard_by_length, front_if_plain, value_if_short,
 };
 use lexical_parse_integer::{
     FromLexical, FromLexicalWithOptions, NumberFormatBuilder, Options, Result, format,
@@ -59,7 +59,7 @@ fn complete_any<T: FromLexical, S: Slot<T>>(text: &[u8], value: &mut S) -> Outco
     ensures { effect result (S.number value.new)
         ≡ complete_call T.TYPE text.now (S.number value.old) }
 {
-    store(complete_if_not_short::<T>(text), text.len(), value)
+    store(complete_standard_by_length::<T>(text), text.len(), value)
 }
 
 /// The whole text, under the standard format. A short one is read in place, so that an exported call keeps nothing.
@@ -102,7 +102,7 @@ fn complete_under_any<T: FromLexicalWithOptions<Options = Options>, S: Slot<T>>(
     if !fields.are_known() {
         return UNKNOWN;
     }
-    let answer = complete_under_if_not_short::<T>(text, &fields.format());
+    let answer = complete_if_valid::<T>(text, &fields.format());
     store(answer, text.len(), value)
 }
 

@@ -145,7 +145,14 @@ pub fn value_from_17<T: Integer>(digits: &[u8], is_negative: bool) -> Option<T>
     ensures { IfSome result (λ value. StandsFor T.TYPE 10 is_negative digits.now (T.number value)) }
 {
     let n = digits.len();
-    let most = if T::BITS > 64 { 48 } else { 20 };
+    // No number of a signed type of 64 bits has twenty digits.
+    let most = if T::BITS > 64 {
+        48
+    } else if T::IS_SIGNED {
+        19
+    } else {
+        20
+    };
     if n <= 16 || n > most {
         return None;
     }

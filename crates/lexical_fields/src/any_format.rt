@@ -10,7 +10,7 @@ ghost use Rattle.lexical_fields.specs.Search.{AreMarks};
 use crate::marked::{next_marks, split_marked};
 use crate::split::split_field;
 use lexical_parse_integer::parse::ParseInteger;
-use lexical_parse_integer::quick::{complete_valid_if_not_short, value_if_short};
+use lexical_parse_integer::quick::{complete_valid, value_if_short};
 use lexical_parse_integer::{Error, NumberFormat, Result};
 
 // The first field, what is behind its separator, and the marks of that: by the marks of the text, or by a look for the
@@ -39,7 +39,7 @@ fn number_of_field<T: ParseInteger>(field: &[u8], format: &NumberFormat) -> Resu
 {
     match value_if_short::<T>(field, format) {
         Some(value) => Ok(value),
-        None => complete_valid_if_not_short::<T>(field, format),
+        None => complete_valid::<T>(field, format),
     }
 }
 

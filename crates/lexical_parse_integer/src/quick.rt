@@ -10,7 +10,7 @@ ghost use Rattle.lexical_parse_integer.specs.Grammar.{complete};
 pub use crate::algorithm::plain::fields::{field_in_front, is_separated};
 pub use crate::algorithm::plain::{front_if_plain, value_if_short};
 pub use crate::algorithm::whole::{
-    complete_under_if_not_short, complete_valid_if_not_short, standard_if_left, value_for_format,
+    complete_if_valid, complete_standard, complete_valid, value_for_format,
 };
 use crate::api::FromLexical;
 use lexical_util::result::Result;
@@ -18,11 +18,11 @@ use lexical_util::result::Result;
 /// The integer that the whole text stands for under the standard format, for a text that `value_if_short` has left: one
 /// of up to sixteen bytes isn't read as digits again.
 #[inline(always)]
-pub fn complete_if_not_short<T: FromLexical>(bytes: &[u8]) -> Result<T>
+pub fn complete_standard_by_length<T: FromLexical>(bytes: &[u8]) -> Result<T>
     ensures { view_of T.number result ≡ complete standard T.TYPE bytes.now }
 {
     if bytes.len() <= 16 {
-        return standard_if_left::<T>(bytes);
+        return complete_standard::<T>(bytes);
     }
     T::from_lexical(bytes)
 }

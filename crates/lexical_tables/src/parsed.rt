@@ -9,9 +9,7 @@ ghost use Rattle.lexical_tables.specs.Targets.{error_in, with_number};
 use lexical_fields::error_in_text;
 use lexical_parse_integer::laws::grammar::fault_places;
 use lexical_parse_integer::parse::ParseInteger;
-use lexical_parse_integer::quick::{
-    complete_valid_if_not_short, standard_if_left, value_for_format,
-};
+use lexical_parse_integer::quick::{complete_standard, complete_valid, value_for_format};
 use lexical_parse_integer::{Error, NumberFormat, format};
 
 // Puts the number of a cell that isn't had at once into a row's place, or tells the cell's fault: by the reader for its
@@ -34,7 +32,7 @@ pub(crate) fn put_parsed<T: ParseInteger>(
 {
     // The law by which a fault's place is at most the cell's length, so that the sum fits.
     fault_places();
-    match complete_valid_if_not_short::<T>(cell, format) {
+    match complete_valid::<T>(cell, format) {
         Ok(value) => {
             values[row] = value;
             None
@@ -69,7 +67,7 @@ pub fn put_standard_parsed<T: ParseInteger>(
         }
     }
     fault_places();
-    match standard_if_left::<T>(cell) {
+    match complete_standard::<T>(cell) {
         Ok(value) => {
             values[row] = value;
             None

@@ -1,5 +1,5 @@
 -- Digits at the front of a text, and the byte behind them: for the answers of `algorithm::plain::faults`.
-use Rattle.std.proofs.Common.{◌≡◌, ◌≢◌, ℕ, zero, suc, ◌+◌, ◌-◌, ◌^◌, ◌<◌, ◌≤◌, ◌&&◌, not, Bool, true, false, List, [], ◌∷◌, length, get_or, take, refl, sym, ap, ◌∙◌, subst, arith, Ok, Err, inl, inr}
+use Rattle.std.proofs.Common.{◌≡◌, ◌≢◌, ℕ, zero, suc, ◌+◌, ◌-◌, ◌^◌, ◌<◌, ◌≤◌, ◌&&◌, not, Bool, true, false, List, [], ◌∷◌, length, get_or, take, refl, sym, ap, ◌∙◌, subst, arith, Ok, Err, inl, inr, pos}
 use Rattle.std.specs.Prelude.{◌==◌, slice_index, slice_range, ℤ, IsNone, is_some, nat_le, nat_lt}
 use Rattle.std.proofs.Math.Bool.{and-false}
 use Rattle.std.proofs.lemmas.Bool.{cases_lt, false≢true, le-ltb, lt-ltb, ne_eqb}
@@ -121,6 +121,19 @@ module _ (f : Format) (t : IntegerType) (text : List ℕ) (s : Bool × ℕ) (cou
       let over : nat_lt (s.1 + 0) (length text) ≡ false = le-ltb (s.1 + 0) (length text) (omega arith) in
       let place : length text ≡ s.1 = omega arith in
       stops_there none ∙ rw (over, required, and-false) (ap (λ k. Err (Empty k)) place)
+
+  -- where no digit is asked for, none is worth 0
+  pub no_digits_asked : digits_required f ≡ false → length text ≤ s.1 → complete f t text ≡ Ok (pos 0)
+  unfolding range_fault
+  no_digits_asked asked end =
+      let low = sign_within f t text s sign_is in
+      let none : has_digit 10 text s.1 ≡ false = ap is_some (digit_at_past 10 text s.1 end) in
+      let over : nat_lt (s.1 + 0) (length text) ≡ false = le-ltb (s.1 + 0) (length text) (omega arith) in
+      stops_there none ∙ rw (over, asked, and-false) (ap (λ (z : ℤ). Ok z) (by_sign s.0))
+    where
+      by_sign : (b : Bool) → with_sign b 0 ≡ pos 0
+      by_sign true = refl
+      by_sign false = refl
 
   pub within_text : has_digit 10 text s.1 ≡ true → s.1 < length text
   within_text there = elim (cases_lt s.1 (length text)) [ inl l ↦ l | inr past ↦ absurd (false≢true (sym (ap is_some (digit_at_past 10 text s.1 past)) ∙ there)) ]

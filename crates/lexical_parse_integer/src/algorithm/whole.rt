@@ -79,7 +79,8 @@ fn long_decimal<T: Integer>(
     }
 }
 
-// The fault of a text behind whose sign a byte stands that is no digit, before there are too many.
+// The fault of a text behind whose sign a byte stands that is no digit, before there are too many; or 0, where nothing stands
+// there, and no digit is asked for.
 #[inline(always)]
 fn short_decimal<T: Integer>(
     bytes: &[u8],
@@ -95,15 +96,16 @@ fn short_decimal<T: Integer>(
     match place_after_digits::<T>(bytes, format, is_negative, start) {
         Some(place) if place < bytes.len() => Err(Error::InvalidDigit(place)),
         Some(place) => Err(Error::Empty(place)),
+        None if start == bytes.len() && !format.required_digits() => Ok(T::ZERO),
         None => complete_from_front::<T>(bytes, format),
     }
 }
 
 // The complete answer under a decimal format without punctuation, for a text that isn't digits alone behind a minus or none.
 // Most such texts are at fault: the sign is read once, and a fault that is known is told. Zeros in front of a long number are
-// read from the front, which skips them.
-#[inline(always)]
-fn decimal_if_left<T: Integer>(bytes: &[u8], format: &NumberFormat) -> Result<T>
+// read from the front, which skips them. Why out of line: docs/DECISIONS.md, code.
+#[inline(never)]
+fn complete_decimal<T: Integer>(bytes: &[u8], format: &NumberFormat) -> Result<T>
     requires plain { IsPlain format.now }
     requires decimal { format.now.mantissa_radix ≡ 10 }
     ensures { view_of T.number result ≡ complete format.now T.TYPE bytes.now }
@@ -121,16 +123,6 @@ fn decimal_if_left<T: Integer>(bytes: &[u8], format: &NumberFormat) -> Result<T>
     short_decimal::<T>(bytes, format, is_negative, start)
 }
 
-// The same in one call. Why out of line: docs/DECISIONS.md, code.
-#[inline(never)]
-pub(crate) fn complete_decimal<T: Integer>(bytes: &[u8], format: &NumberFormat) -> Result<T>
-    requires plain { IsPlain format.now }
-    requires decimal { format.now.mantissa_radix ≡ 10 }
-    ensures { view_of T.number result ≡ complete format.now T.TYPE bytes.now }
-{
-    decimal_if_left::<T>(bytes, format)
-}
-
 // Room for what a call answers through memory is cleared where the function begins that makes it: so two such calls stand in
 // functions of their own.
 #[inline(always)]
@@ -141,16 +133,16 @@ fn fault_of_many<T: Integer>(bytes: &[u8]) -> Option<Error>
 }
 
 #[inline(always)]
-fn standard_from_front<T: Integer>(bytes: &[u8]) -> Result<T>
+fn standard_answer<T: Integer>(bytes: &[u8]) -> Result<T>
     ensures { view_of T.number result ≡ complete standard T.TYPE bytes.now }
 {
-    complete_from_front::<T>(bytes, &format::STANDARD)
+    complete_decimal::<T>(bytes, &format::STANDARD)
 }
 
 // By calls that know the format: each answers in registers.
 /// The integer that the whole text stands for under the standard format, for a text that `value_for_format` has left.
 #[inline(always)]
-pub fn standard_if_left<T: Integer>(bytes: &[u8]) -> Result<T>
+pub fn complete_standard<T: Integer>(bytes: &[u8]) -> Result<T>
     ensures { view_of T.number result ≡ complete standard T.TYPE bytes.now }
 {
     if let Some(value) = standard_behind_plus::<T>(bytes) {
@@ -160,11 +152,12 @@ pub fn standard_if_left<T: Integer>(bytes: &[u8]) -> Result<T>
         if let Some(fault) = fault_of_many::<T>(bytes) {
             return Err(fault);
         }
+        return standard_answer::<T>(bytes);
     }
     match place_after_few::<T>(bytes) {
         Some(place) if place < bytes.len() => Err(Error::InvalidDigit(place)),
         Some(place) => Err(Error::Empty(place)),
-        None => standard_from_front::<T>(bytes),
+        None => standard_answer::<T>(bytes),
     }
 }
 
@@ -202,7 +195,7 @@ fn plain_answer<T: Integer>(bytes: &[u8], format: &NumberFormat) -> Result<T>
 /// The integer that the whole text stands for under a format that may be invalid, for a text that `value_if_short` has
 /// left: it isn't read as short decimal digits again.
 #[inline(always)]
-pub fn complete_under_if_not_short<T: Integer>(bytes: &[u8], format: &NumberFormat) -> Result<T>
+pub fn complete_if_valid<T: Integer>(bytes: &[u8], format: &NumberFormat) -> Result<T>
     ensures { view_of T.number result ≡ complete_if_valid format.now T.TYPE bytes.now }
 {
     if is_plain(format) {
@@ -292,7 +285,7 @@ fn is_left_to_front(bytes: &[u8], format: &NumberFormat) -> bool {
 /// as short decimal digits again. The readers of values stand in the caller's place, as a loop over texts wants.
 #[inline(always)]
 #[tactic(auto, using(crate::proofs::plain::DigitsAlone::valid_answer))]
-pub fn complete_valid_if_not_short<T: Integer>(bytes: &[u8], format: &NumberFormat) -> Result<T>
+pub fn complete_valid<T: Integer>(bytes: &[u8], format: &NumberFormat) -> Result<T>
     requires valid { IsNone (fault format.now) }
     ensures { view_of T.number result ≡ complete format.now T.TYPE bytes.now }
 {

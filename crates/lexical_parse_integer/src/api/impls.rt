@@ -7,7 +7,7 @@ use crate::algorithm::front::partial_from_front;
 use crate::algorithm::plain::{front_if_plain, value_if_short};
 use crate::algorithm::punctuated::validity::fault_of;
 use crate::algorithm::standard_partial;
-use crate::algorithm::whole::{complete_under_if_not_short, standard_if_left, value_for_format};
+use crate::algorithm::whole::{complete_if_valid, complete_standard, value_for_format};
 use crate::api::{FromLexical, FromLexicalWithOptions};
 use crate::options::Options;
 use lexical_util::error::Error;
@@ -39,7 +39,7 @@ impl<T: Integer> FromLexical for T {
     fn from_lexical(bytes: &[u8]) -> Result<T> {
         match value_for_format::<T>(bytes, &format::STANDARD) {
             Some(value) => Ok(value),
-            None => standard_if_left::<T>(bytes),
+            None => complete_standard::<T>(bytes),
         }
     }
 
@@ -64,7 +64,7 @@ impl<T: Integer> FromLexicalWithOptions for T {
     ) -> Result<T> {
         match value_if_short::<T>(bytes, format) {
             Some(value) => Ok(value),
-            None => complete_under_if_not_short::<T>(bytes, format),
+            None => complete_if_valid::<T>(bytes, format),
         }
     }
 

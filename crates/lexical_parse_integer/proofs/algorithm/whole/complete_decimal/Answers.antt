@@ -3,7 +3,7 @@ use Rattle.std.proofs.lemmas.Result.{err_from_is_err_and}
 use Rattle.lexical_parse_integer.proofs.plain.ForbiddenZeros.{forbidden_zero}
 use Rattle.lexical_parse_integer.proofs.reading.ParserAnswers.{head_fault, sign_completes}
 use Rattle.lexical_parse_integer.proofs.theorems.CompleteByPartial.{sign_within}
-use Rattle.lexical_parse_integer.proofs.algorithm.whole.decimal_if_left.Goals as goal
+use Rattle.lexical_parse_integer.proofs.algorithm.whole.complete_decimal.Goals as goal
 
 pub returns-in_err-is_negative : goal.returns-in_err-is_negative
 returns-in_err-is_negative g c =
