@@ -1,5 +1,5 @@
 -- Numbers that are put into a column's array, as the values of the column.
-use Rattle.std.proofs.Common.{◌≡◌, ◌≢◌, ◌∙◌, ℕ, ◌+◌, ◌<◌, ◌≤◌, ◌==◌, Bool, true, false, cond, List, length, map, set, ℤ, pos, Result, Option, Some, None, refl, ap, ap₂, sym, subst, arith, length-set, ◌||◌, nat_lt}
+use Rattle.std.proofs.Common.{◌≡◌, ◌≢◌, ◌∙◌, ℕ, ◌+◌, ◌<◌, ◌≤◌, ◌==◌, Bool, true, false, cond, List, length, map, set, ℤ, pos, Result, Option, Some, None, refl, ap, ap₂, sym, subst, arith, length-set, ◌||◌, nat_lt, not}
 use Rattle.std.specs.Prelude.{IfSome, option_map}
 use Rattle.std.specs.Borrow.{MutBor}
 use Rattle.std.proofs.lemmas.Bool.{eqb-true, false_from_ne_true, false≢true}
@@ -14,7 +14,7 @@ use Rattle.lexical_fields.specs.ReadFields.{field_answer}
 use Rattle.lexical_fixed.specs.Validity.{fixed_fault}
 use Rattle.lexical_tables.specs.ByColumn.{IsUsable}
 use Rattle.lexical_tables.specs.Readings.{FixedPoints, Integers, IsValid, Number, Reading, Text, Texts, Value, answer_by, blank, fixed_answer, keeps_texts}
-use Rattle.lexical_tables.specs.Targets.{TargetView, error_in, keeps_text, slice_of, text_fault, with_number}
+use Rattle.lexical_tables.specs.Targets.{TargetView, error_in, has_numbers, keeps_text, slice_of, text_fault, with_number}
 use Rattle.lexical_tables.proofs.NumbersPut.{as_values, same_error}
 use Rattle.jadvolni.specs.Arrays.{ArrayView, array_as, array_fault, array_in, number_type, put_answer, put_number as put_in, type_named}
 use Rattle.lexical_fixed.specs.Fixed.{Fixed}
@@ -147,6 +147,19 @@ module _ (column : ColumnFields) where
       let it = array_named column.arrays type in
       let there : array_in column.arrays ≡ Some it.array = ap (array_as column.arrays) is ∙ it.there in
       (it.array.type, (subst (λ a. IsUsable room (target_as column a)) there usable).0)
+
+  -- it has numbers, and keeps no texts
+  pub numbers_there : (type : NumberType) → number_type column.arrays ≡ Some type → has_numbers (target_of column) ≡ true
+  numbers_there type is =
+      let it = array_named column.arrays type in
+      ap (λ array. has_numbers (target_as column array)) (ap (array_as column.arrays) is ∙ it.there)
+      ∙ ap not (keeps_none column.description it.array.type)
+
+  pub no_texts_there : (type : NumberType) → number_type column.arrays ≡ Some type → keeps_text (target_of column) ≡ false
+  no_texts_there type is =
+      let it = array_named column.arrays type in
+      ap (λ array. keeps_text (target_as column array)) (ap (array_as column.arrays) is ∙ it.there)
+      ∙ keeps_none column.description it.array.type
 
   -- what a column that has numbers is read under is valid
   pub valid_fixed : (room : ℕ) (type : NumberType) → number_type column.arrays ≡ Some type

@@ -15,7 +15,8 @@ use lexical_fixed::FixedFormat;
 use lexical_parse_integer::format::STANDARD;
 use lexical_parse_integer::{Error, NumberFormat, Options};
 use lexical_tables::{
-    put_at_once, put_cell, put_fixed, put_standard_parsed, put_with_sign, put_zero,
+    put_at_once, put_cell, put_fixed, put_fixed_at_once, put_standard_parsed, put_with_sign,
+    put_zero,
 };
 
 /// A type that the numbers of a column may have.
@@ -176,6 +177,40 @@ impl ArrayFields<'_> {
             Some(NumberType::U16) => put_fixed(self.u16s, row, start, text, format),
             Some(NumberType::I8) => put_fixed(self.i8s, row, start, text, format),
             Some(NumberType::U8) => put_fixed(self.u8s, row, start, text, format),
+        }
+    }
+
+    // Puts the fixed-point number of a text's first bytes, so many, into a row's place, where there is an array and the number is
+    // had at once.
+    #[inline(always)]
+    pub(crate) fn put_fixed_at_once(
+        &mut self,
+        row: usize,
+        ahead: &[u8],
+        size: usize,
+        format: &FixedFormat,
+    ) -> bool
+        requires valid { IsNone (fixed_fault format.now) }
+        requires room { IfSome (array_in self.old) (λ array. row < length array.numbers) }
+        requires within { size ≤ length ahead.now }
+        ensures fault { IsTrue result → (start : ℕ)
+            → array_fault (λ type. fixed_answer format.now type
+            (record { start = start; text = take size ahead.now })) (array_in self.old) ≡ None }
+        ensures numbers { IsTrue result → (start : ℕ) → array_in self.new
+            ≡ option_map (put_answer row (λ type. fixed_answer format.now type
+            (record { start = start; text = take size ahead.now }))) (array_in self.old) }
+        ensures kept { result ≡ false → array_in self.new ≡ array_in self.old }
+    {
+        match self.number_type() {
+            None => false,
+            Some(NumberType::I64) => put_fixed_at_once(self.i64s, row, ahead, size, format),
+            Some(NumberType::U64) => put_fixed_at_once(self.u64s, row, ahead, size, format),
+            Some(NumberType::I32) => put_fixed_at_once(self.i32s, row, ahead, size, format),
+            Some(NumberType::U32) => put_fixed_at_once(self.u32s, row, ahead, size, format),
+            Some(NumberType::I16) => put_fixed_at_once(self.i16s, row, ahead, size, format),
+            Some(NumberType::U16) => put_fixed_at_once(self.u16s, row, ahead, size, format),
+            Some(NumberType::I8) => put_fixed_at_once(self.i8s, row, ahead, size, format),
+            Some(NumberType::U8) => put_fixed_at_once(self.u8s, row, ahead, size, format),
         }
     }
 

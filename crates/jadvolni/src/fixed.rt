@@ -109,7 +109,7 @@ impl FixedFields {
 
     // Whether the integer part has the standard format, and nothing that is unknown: its fields say so, or all are 0.
     #[inline(always)]
-    fn has_standard_integer(&self) -> bool
+    pub(crate) fn has_standard_integer(&self) -> bool
         ensures known { IsTrue result → IsTrue (are_known self.now.integer) }
         ensures integer { IsTrue result → integer_of self.now.integer ≡ standard }
     {

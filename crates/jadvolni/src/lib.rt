@@ -8,6 +8,7 @@ mod coded_columns;
 pub mod columns;
 pub mod fixed;
 pub mod fixed_calls;
+mod fixed_columns;
 pub mod fold;
 pub mod format;
 pub mod fronts;

@@ -6,16 +6,14 @@ ghost use Rattle.lexical_tables.specs.ByColumn.{IsUsable};
 ghost use Rattle.lexical_tables.specs.Readings.{Text};
 ghost use Rattle.lexical_tables.specs.Targets.{has_bits, keeps_text, put_value, text_fault};
 ghost use Rattle.jadvolni.specs.Arrays.{array_in};
-ghost use Rattle.jadvolni.specs.Fixed.{fixed_of};
 ghost use Rattle.jadvolni.specs.FormatFields.{format_of};
 ghost use Rattle.jadvolni.specs.Tables.{bits_of, column_status, lacks_bits, put_number, put_presence, put_zero, target_of};
 
 use crate::arrays::ArrayFields;
 use crate::fixed::FixedFields;
 use crate::text_columns::{TextFields, text_fields};
-use lexical_fixed::FixedFormat;
 use lexical_parse_integer::{Error, Options};
-use lexical_tables::codes::{NOT_READ, UNKNOWN, has_bits, under_format};
+use lexical_tables::codes::{AT_ONCE, NOT_READ, TEXTS, UNKNOWN, has_bits, under_format};
 use lexical_tables::{CellText, TableColumn, put_bit};
 
 /// The status of a table that no text can be read by.
@@ -95,37 +93,6 @@ impl ColumnFields<'_> {
         }
     }
 
-    // The description of its fixed-point numbers. A plain one isn't made field by field.
-    #[inline(always)]
-    #[tactic(auto, using(crate::proofs::ColumnNumbers::plain_is))]
-    fn fixed_format(&self) -> FixedFormat
-        ensures { result ≡ fixed_of self.now.description }
-    {
-        if self.description.is_plain() {
-            return self.description.plain();
-        }
-        self.description.format()
-    }
-
-    // Puts the fixed-point number of a text into a row's place, or tells the text's fault.
-    #[inline(never)]
-    fn put_fixed_number(&mut self, row: usize, start: usize, text: &[u8]) -> Option<Error>
-        requires numbers { keeps_text (target_of self.old) ≡ false }
-        requires places { self.old.description.places ≢ 0 }
-        requires usable { IsUsable (row + 1) (target_of self.old) }
-        requires fits { start + length text.now < 2 ^ 64 }
-        ensures fault { result ≡ text_fault (target_of self.old)
-            (record { start = start; text = text.now }) }
-        ensures target { target_of self.new ≡ option_map (put_number row
-            (record { start = start; text = text.now })) (target_of self.old) }
-    {
-        let Some(_) = self.arrays.number_type() else {
-            return None;
-        };
-        let format = self.fixed_format();
-        self.arrays.put_fixed(row, start, text, &format)
-    }
-
     // Puts the integer of a text into a row's place, or tells the text's fault, under a format that is made field by field.
     #[inline(never)]
     fn put_other_number(
@@ -191,13 +158,34 @@ impl ColumnFields<'_> {
         ensures target { target_of self.new ≡ option_map (put_number row
             (record { start = start; text = text.now })) (target_of self.old) }
     {
-        if self.is_standard() {
-            return self.put_standard_number(row, start, text);
-        }
         if self.description.places != 0 {
             return self.put_fixed_number(row, start, text);
         }
+        if self.is_standard() {
+            return self.put_standard_number(row, start, text);
+        }
         self.put_other_number(row, start, text, ahead, options)
+    }
+
+    // Puts the number of a text's first bytes, so many, into a row's place, where it is had at once.
+    #[inline(always)]
+    fn put_number_at_once(&mut self, row: usize, ahead: &[u8], size: usize) -> bool
+        requires usable { IsUsable (row + 1) (target_of self.old) }
+        requires within { size ≤ length ahead.now }
+        ensures fault { IsTrue result → (start : ℕ) → text_fault (target_of self.old)
+            (record { start = start; text = take size ahead.now }) ≡ None }
+        ensures target { IsTrue result → (start : ℕ) → target_of self.new
+            ≡ option_map (put_number row (record { start = start; text = take size ahead.now }))
+            (target_of self.old) }
+        ensures kept { result ≡ false → target_of self.new ≡ target_of self.old }
+    {
+        if self.description.places != 0 {
+            return self.put_fixed_at_once(row, ahead, size);
+        }
+        if !self.is_standard() {
+            return false;
+        }
+        self.put_standard_at_once(row, ahead, size)
     }
 
     // Puts the integer of a text's first bytes, so many, into a row's place, where it is had at once under the standard format.
@@ -218,20 +206,6 @@ impl ColumnFields<'_> {
             return false;
         }
         self.arrays.put_at_once(row, ahead, size)
-    }
-
-    // Puts where all of a text stands into a row's place of a column of texts, and sets the row's bit. Tables hand texts to
-    // `put_text`: so it stays out of the way of numbers.
-    #[inline(never)]
-    fn keep_text(&mut self, row: usize, start: usize, size: usize)
-        requires text { keeps_text (target_of self.old) ≡ true }
-        requires usable { IsUsable (row + 1) (target_of self.old) }
-        ensures { target_of self.new ≡ option_map (put_value row (Some (Text
-            (record { start = start; size = size; has_doubled_quotes = false }))))
-            (target_of self.old) }
-    {
-        self.put_whole_text(row, start, size);
-        self.put_presence(row, true);
     }
 
     /// What is wrong with the column, if so many rows are asked for.
@@ -299,11 +273,18 @@ impl TableColumn for ColumnFields<'_> {
         self.put_presence(row, false);
     }
 
+    // Tables hand texts to `keep_text`: so it stays out of the way of numbers.
+    #[inline(never)]
     fn put_text(&mut self, row: usize, text: CellText) {
         if self.is_text() {
-            self.put_place(row, text_fields(text));
-            self.put_presence(row, true);
+            self.keep_text(row, text);
         }
+    }
+
+    #[inline(always)]
+    fn keep_text(&mut self, row: usize, text: CellText) {
+        self.put_place(row, text_fields(text));
+        self.put_presence(row, true);
     }
 
     fn read(
@@ -323,10 +304,7 @@ impl TableColumn for ColumnFields<'_> {
     // A column of another format isn't tried: `read_left` makes that format, once.
     #[inline(always)]
     fn read_at_once(&mut self, row: usize, ahead: &[u8], size: usize) -> bool {
-        if !self.is_standard() {
-            return false;
-        }
-        if !self.put_standard_at_once(row, ahead, size) {
+        if !self.put_number_at_once(row, ahead, size) {
             return false;
         }
         self.put_presence(row, true);
@@ -343,7 +321,12 @@ impl TableColumn for ColumnFields<'_> {
         options: &Options,
     ) -> Option<Error> {
         if self.is_text() {
-            self.keep_text(row, start, text.len());
+            let place = CellText {
+                start,
+                size: text.len(),
+                has_doubled_quotes: false,
+            };
+            self.put_text(row, place);
             return None;
         }
         if let Some(error) = self.put_parsed_number(row, start, text, ahead, options) {
@@ -359,11 +342,15 @@ impl TableColumn for ColumnFields<'_> {
             return if self.texts.is_empty() {
                 NOT_READ
             } else {
-                UNKNOWN
+                TEXTS
             };
         };
         if self.description.places != 0 {
-            return UNKNOWN;
+            return if self.description.has_standard_integer() {
+                AT_ONCE
+            } else {
+                UNKNOWN
+            };
         }
         let code = self.standard_code(numbers);
         if self.is_standard() {

@@ -54,22 +54,4 @@ impl ColumnFields<'_> {
             },
         );
     }
-
-    // Puts where a text stands, all of which is kept, into a row's place of a column of texts.
-    pub(crate) fn put_whole_text(&mut self, row: usize, start: usize, size: usize)
-        requires text { keeps_text (target_of self.old) ≡ true }
-        requires usable { IsUsable (row + 1) (target_of self.old) }
-        ensures { target_of self.new ≡ option_map (put_place row
-            (record { start = start; size = size; has_doubled_quotes = false }))
-            (target_of self.old) }
-    {
-        self.put_place(
-            row,
-            TextFields {
-                start,
-                size,
-                has_doubled_quotes: 0,
-            },
-        );
-    }
 }

@@ -173,6 +173,30 @@ fn plain_part<T: Integer>(text: &[u8], format: &FixedFormat) -> Option<(T, usize
     Some((whole, place))
 }
 
+// `whole_at_once`, out of line, so that a short text pays for none of it.
+#[inline(never)]
+fn long_at_once<T: Integer>(text: &[u8], format: FixedFormat) -> Option<T>
+    requires valid { IsNone (fixed_fault format) }
+    ensures { IfSome result
+        (λ units. complete_fixed format T.TYPE text.now ≡ Ok (T.number units)) }
+{
+    whole_at_once::<T>(text, &format)
+}
+
+/// The number that the whole text stands for, where it is digits around a point, behind a minus or none, and few of them stand
+/// behind the point.
+#[inline(always)]
+pub fn value_at_once<T: Integer>(text: &[u8], format: &FixedFormat) -> Option<T>
+    requires valid { IsNone (fixed_fault format.now) }
+    ensures { IfSome result
+        (λ units. complete_fixed format.now T.TYPE text.now ≡ Ok (T.number units)) }
+{
+    match value_if_short::<T>(text, format) {
+        Some(value) => Some(value),
+        None => long_at_once::<T>(text, *format),
+    }
+}
+
 /// The number in front of the text, and the place at which reading stops.
 #[inline(always)]
 pub fn front_at_once<T: Integer>(text: &[u8], format: &FixedFormat) -> Option<(T, usize)>

@@ -85,6 +85,11 @@ module _ {C : Type 0} (target_of : C → Option TargetView) (d : Dialect) (targe
       subst (IsCodeIn d (get_or codes column 0)) (default_is targets_seen column (target_of e) low_seen ∙ target_is)
       (are column coded low_seen)
 
+  -- or one that is known to be right for it
+  pub known_told : (code : ℕ) → IsCodeIn d code (get_or targets_seen column None)
+      → IsCodeIn d code (target_of (get_or targets column e))
+  known_told code is = subst (IsCodeIn d code) (default_is targets_seen column (target_of e) low_seen ∙ target_is) is
+
   -- that isn't read
   pub unread_fault : is_some (target_of (get_or targets column e)) ≡ false
       → quote_fault d.has_quotes false cell ≡ fault_in (answer_at d (kinds_of targets_seen) column cell)

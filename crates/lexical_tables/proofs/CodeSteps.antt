@@ -1,12 +1,12 @@
 -- The codes of columns stay right while numbers are put.
-use Rattle.std.proofs.Common.{◌≡◌, ◌∙◌, ℕ, zero, suc, ◌<◌, List, [], ◌∷◌, length, get_or, ℤ, Result, Option, Some, None, refl, ap, sym, subst, arith}
+use Rattle.std.proofs.Common.{◌≡◌, ◌∙◌, ℕ, zero, suc, ◌<◌, ◌≤◌, Bool, false, true, not, List, [], ◌∷◌, length, get_or, ℤ, Result, Option, Some, None, refl, ap, sym, subst, arith}
 use Rattle.std.proofs.lemmas.List.{length-map}
 use Rattle.std.specs.Prelude.{is_some, option_map, slice_index}
-use Rattle.lexical_tables.specs.Readings.{Value}
+use Rattle.lexical_tables.specs.Readings.{FixedPoints, Integers, Reading, Texts, Value, keeps_texts}
 use Rattle.lexical_tables.specs.ByColumn.{kind_of, kinds_of, put_read_at, put_row}
 use Rattle.lexical_tables.specs.Cells.{Kind}
-use Rattle.lexical_tables.specs.Codes.{AreCoded, AreCodes, IsCodeIn, IsReadAs, has_coded_bits}
-use Rattle.lexical_tables.specs.Targets.{TargetView}
+use Rattle.lexical_tables.specs.Codes.{AreCoded, AreCodes, IsCode, IsCodeIn, IsReadAs, has_coded_bits}
+use Rattle.lexical_tables.specs.Targets.{TargetView, has_numbers, keeps_text}
 use Rattle.lexical_tables.specs.declared.answers.CellFault.{CellFault}
 use Rattle.lexical_tables.specs.declared.dialect.Dialect.{Dialect}
 use Rattle.lexical_tables.proofs.PutSteps.{kinds_put, kinds_put_row}
@@ -28,12 +28,56 @@ there_is : (target : Option TargetView) → is_some (option_map kind_of target) 
 there_is None = refl
 there_is (Some target) = refl
 
+-- whether what a column is read as are texts
+abbrev has_texts : Option Kind → Bool
+has_texts None = false
+has_texts (Some kind) = keeps_texts kind.reading
+
+texts_are : (target : Option TargetView) → has_texts (option_map kind_of target) ≡ keeps_text target
+texts_are None = refl
+texts_are (Some target) = refl
+
+-- whether they are numbers
+abbrev are_numbers : Option Kind → Bool
+are_numbers None = false
+are_numbers (Some kind) = not (keeps_texts kind.reading)
+
+numbers_are : (target : Option TargetView) → are_numbers (option_map kind_of target) ≡ has_numbers target
+numbers_are None = refl
+numbers_are (Some target) = refl
+
+-- a column that is read by its code has numbers
+numbers_read : (code : ℕ) (reading : Reading) → AreCoded code reading → not (keeps_texts reading) ≡ true
+numbers_read code (Integers format type) coded = refl
+numbers_read code (FixedPoints fixed type) coded = absurd coded
+numbers_read code Texts coded = absurd coded
+
+has_read : (code : ℕ) (target : Option TargetView) → IsReadAs code target → has_numbers target ≡ true
+has_read code None read = absurd read
+has_read code (Some target) read = numbers_read code target.reading read.0
+
+-- so it may be asked at each cell
+pub asked_code : (dialect : Dialect) (code : ℕ) (target : Option TargetView) → IsCode code target → 8 ≤ code
+    → IsCodeIn dialect 3 target
+asked_code dialect code target is read = record {
+  column = record {
+    unread = λ one. absurd (omega (arith, one));
+    texts = λ two. absurd (omega (arith, two));
+    numbers = λ three. has_read code target (is.read read);
+    read = λ more. absurd (omega (arith, more));
+  };
+  no_blanks = λ more. absurd (omega (arith, more));
+  no_number = λ more. absurd (omega (arith, more));
+}
+
 -- so the code stays right where the column is read as before
 same_code : (dialect : Dialect) (code : ℕ) (old new : Option TargetView)
     → option_map kind_of new ≡ option_map kind_of old → IsCodeIn dialect code old → IsCodeIn dialect code new
 same_code dialect code old new same is = record {
   column = record {
     unread = λ one. sym (there_is new) ∙ ap is_some same ∙ there_is old ∙ is.column.unread one;
+    texts = λ two. sym (texts_are new) ∙ ap has_texts same ∙ texts_are old ∙ is.column.texts two;
+    numbers = λ three. sym (numbers_are new) ∙ ap are_numbers same ∙ numbers_are old ∙ is.column.numbers three;
     read = λ some. from_kind code new (subst (IsKindAs code) (sym same) (to_kind code old (is.column.read some)));
   };
   no_blanks = is.no_blanks;
@@ -91,6 +135,8 @@ unknown_codes dialect codes targets unknown k coded low =
     record {
       column = record {
         unread = λ is. absurd (omega (arith, none, is));
+        texts = λ is. absurd (omega (arith, none, is));
+        numbers = λ is. absurd (omega (arith, none, is));
         read = λ read. absurd (omega (arith, none, read));
       };
       no_blanks = λ read. absurd (omega (arith, none, read));

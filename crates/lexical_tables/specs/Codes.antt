@@ -1,5 +1,6 @@
 -- What a column says of all its cells, as a byte.
--- 0: nothing is known, and the column is asked at each cell. 1: its cells aren't read. 8 and more: they are read as decimal
+-- 0: nothing is known, and the column is asked at each cell. 1: its cells aren't read. 2: they are texts. 3: they are
+-- numbers, which the column is asked for at each cell. 8 and more: they are read as decimal
 -- digits behind an optional minus are, whatever else the format allows, as numbers of u8, u16, u32, u64, i8, i16, i32 or i64
 -- in this order. 16 is added where a number may be missing, and 32 where no zero may stand in front of another digit.
 use Rattle.std.specs.Prelude.{◌≡◌, ◌-◌, ◌*◌, ◌%◌, ◌^◌, ◌<◌, ◌≤◌, ◌⊎◌, ℕ, Bool, false, true, IsTrue, List, get_or, length, nat_le, slice_index, Option, Some, None, is_some, option_map}
@@ -11,7 +12,7 @@ use Rattle.lexical_fields.specs.Numerals.{IsNumeral}
 use Rattle.lexical_tables.specs.Cells.{ends_in_digit}
 use Rattle.lexical_tables.specs.Quotes.{quote}
 use Rattle.lexical_tables.specs.Readings.{FixedPoints, Integers, Number, Reading, Texts}
-use Rattle.lexical_tables.specs.Targets.{TargetView, put_value}
+use Rattle.lexical_tables.specs.Targets.{TargetView, has_numbers, keeps_text, put_value}
 use Rattle.lexical_tables.specs.declared.dialect.Dialect.{Dialect}
 
 -- the type at a place among u8, u16, u32, u64, i8, i16, i32 and i64
@@ -53,6 +54,8 @@ IsReadAs code (Some target) =
 -- A code is right for a column.
 pub record IsCode (code : ℕ) (target : Option TargetView) : Type 0 where
   pub unread : code ≡ 1 → is_some target ≡ false
+  pub texts : code ≡ 2 → keeps_text target ≡ true
+  pub numbers : code ≡ 3 → has_numbers target ≡ true
   pub read : 8 ≤ code → IsReadAs code target
 
 -- A code is right for a column in a table: where it says how its cells are read, no blanks stand there, and what stands for

@@ -1,5 +1,5 @@
 -- Where the numbers of a table's columns go.
-use Rattle.std.specs.Prelude.{◌/◌, ◌%◌, ◌^◌, ℕ, ℤ, pos, Bool, true, false, List, map, set, slice_index, is_some, option_map, unwrap_or, Option, Some, None, Result, Ok, Err}
+use Rattle.std.specs.Prelude.{◌/◌, ◌%◌, ◌^◌, ℕ, ℤ, pos, Bool, true, false, List, map, set, slice_index, is_some, option_map, unwrap_or, Option, Some, None, Result, Ok, Err, not}
 use Rattle.std.specs.Int.{bit_not, w8}
 use Rattle.std.specs.Borrow.{GName, MutBor}
 use Rattle.std.specs.Int.Bits.{bit_and, bit_or}
@@ -168,3 +168,8 @@ has_bits (Some target) = is_some target.present
 abbrev pub keeps_text : Option TargetView → Bool
 keeps_text None = false
 keeps_text (Some target) = keeps_texts target.reading
+
+-- whether a column's cells are read, as numbers
+abbrev pub has_numbers : Option TargetView → Bool
+has_numbers None = false
+has_numbers (Some target) = not (keeps_texts target.reading)

@@ -10,8 +10,9 @@ ghost use Rattle.lexical_tables.specs.Targets.{TargetView, keeps_text, put_text,
 
 use crate::answers::{CellFault, Table, TableError};
 use crate::cells::{column_count, lacks_cell, next_cell};
-use crate::content::{Cell, content, text_of};
+use crate::content::{Cell, content};
 use crate::dialect::Dialect;
+use crate::known_cells::{had_at_once, read_text};
 use crate::misplaced::quote_fault;
 use crate::pass::read_rows;
 use crate::rows::{Row, first_row};
@@ -33,7 +34,7 @@ pub(crate) fn read_held<C: TableColumn>(
     ensures target { C.target target.new
         ≡ option_map (put_text row (view_of_cell held.entry)) (C.target target.old) }
 {
-    if target.read_at_once(row, held.ahead, held.text.len()) {
+    if had_at_once(target, row, held) {
         return None;
     }
     target.read_left(row, held.start, held.text, held.ahead, options)
@@ -58,10 +59,10 @@ fn cell_fault(
     quote_fault(dialect.has_quotes, is_number, cell)
 }
 
-// Reads a cell in its column of texts, if its quotes are in place: it holds the mark, or a text, and where that stands goes to
-// the row's place. Why out of line: docs/DECISIONS.md, code.
+// Reads a cell in its column of texts as `read_text` does, or tells the fault of its quotes. Why out of line: docs/DECISIONS.md,
+// code.
 #[inline(never)]
-fn read_text<C: TableColumn>(
+fn read_left_text<C: TableColumn>(
     target: &mut C,
     row: usize,
     cell: Cell<'_>,
@@ -77,18 +78,10 @@ fn read_text<C: TableColumn>(
         (option_map kind_of (C.target target.old)) (view_of_cell cell.entry)))
         (C.target target.old) }
 {
-    let misplaced = quote_fault(dialect.has_quotes, false, cell);
-    if misplaced.is_some() {
-        return misplaced;
+    if read_text(target, row, cell, dialect) {
+        return None;
     }
-    let held = content(cell, dialect.has_quotes, false);
-    let is_missing = target.may_miss() && held.text == dialect.missing;
-    if is_missing {
-        target.put_missing(row);
-    } else {
-        target.put_text(row, text_of(held, dialect.has_quotes));
-    }
-    None
+    quote_fault(dialect.has_quotes, false, cell)
 }
 
 // Reads a cell in its column, if its quotes are in place: it holds the mark, a number or a text, which goes to the row's place.
@@ -114,7 +107,7 @@ fn read_value<C: TableColumn>(
         (C.target target.old) }
 {
     if target.is_text() {
-        return read_text(target, row, cell, dialect);
+        return read_left_text(target, row, cell, dialect);
     }
     if let Some(fault) = cell_fault(dialect, true, has_no_quote, cell) {
         return Some(fault);
@@ -215,31 +208,39 @@ pub(crate) fn put_end_fault(
     *wrong = end_fault(row, index, columns, count, extra);
 }
 
-// Reads a cell as `read_cell` does, where it isn't had at once, and tells whether it is right: else what is wrong is told. Why
-// out of line: docs/DECISIONS.md, code.
+// Reads a cell as `read_cell` does, the first bytes of a text, so many, where it isn't had at once, and tells whether it is
+// right: else what is wrong is told. Why out of line: docs/DECISIONS.md, code.
 #[inline(never)]
 pub(crate) fn read_by_column<C: TableColumn>(
     targets: &mut [C],
     column: usize,
     row: usize,
-    cell: Cell<'_>,
+    start: usize,
+    ahead: &[u8],
+    size: usize,
     dialect: &Dialect<'_>,
     options: &Options,
     wrong: &mut Option<TableError>,
 ) -> bool
     requires fine { wrong.old ≡ None }
     requires usable { AreUsable (row + 1) (map C.target targets.old) }
-    requires front { cell.text.now ≡ take (length cell.text.now) cell.ahead.now }
-    requires fits { cell.start + length cell.text.now < 2 ^ 64 }
+    requires within { size ≤ length ahead.now }
+    requires fits { start + size < 2 ^ 64 }
     ensures right { result ≡ is_none (fault_in (answer_at dialect.now
-        (kinds_of (map C.target targets.old)) column (view_of_cell cell.entry))) }
+        (kinds_of (map C.target targets.old)) column
+        (record { start = start; text = take size ahead.now }))) }
     ensures fault { wrong.new ≡ option_map (wrong_cell row column) (fault_in
         (answer_at dialect.now (kinds_of (map C.target targets.old)) column
-        (view_of_cell cell.entry))) }
+        (record { start = start; text = take size ahead.now }))) }
     ensures targets { map C.target targets.new ≡ put_read_at row column (answer_at dialect.now
-        (kinds_of (map C.target targets.old)) column (view_of_cell cell.entry))
-        (map C.target targets.old) }
+        (kinds_of (map C.target targets.old)) column
+        (record { start = start; text = take size ahead.now })) (map C.target targets.old) }
 {
+    let cell = Cell {
+        start,
+        text: &ahead[..size],
+        ahead,
+    };
     match read_cell(targets, column, row, cell, false, dialect, options) {
         Some(fault) => {
             *wrong = Some(TableError { row, column, fault });

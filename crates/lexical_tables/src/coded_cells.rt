@@ -1,17 +1,22 @@
 //! Cells that are read at once, by the codes of their columns.
 
-ghost use Rattle.std.specs.Prelude.{◌≡◌, ◌+◌, ◌≤◌, ℕ, IsTrue, None, false, length, map, take};
-ghost use Rattle.lexical_tables.specs.ByColumn.{AreUsable, answer_at, fault_in, kinds_of, put_read_at};
-ghost use Rattle.lexical_tables.specs.Codes.{AreCodes};
+ghost use Rattle.std.specs.Prelude.{◌≡◌, ◌+◌, ◌<◌, ◌≤◌, ◌^◌, ℕ, IsTrue, None, false, get_or, is_none, length, map, option_map, slice_index, take};
+ghost use Rattle.lexical_tables.specs.ByColumn.{AreUsable, answer_at, fault_in, kinds_of, put_read_at, wrong_cell};
+ghost use Rattle.lexical_tables.specs.Codes.{AreCodes, IsCodeIn};
 
-use crate::codes::CODED;
+use crate::answers::TableError;
+use crate::by_column::read_by_column;
+use crate::codes::{CODED, NOT_READ, U8, UNKNOWN};
+use crate::content::Cell;
 use crate::dialect::Dialect;
 use crate::digit_cells::{read_coded, read_long_coded};
+use crate::known_cells::read_known;
 use crate::targets::TableColumn;
+use lexical_parse_integer::Options;
 
 // Reads the cell of a column at once, the first bytes of a text, so many, by the column's code, and tells whether it did.
 #[inline(always)]
-fn read_coded_cell<C: TableColumn>(
+pub(crate) fn read_coded_cell<C: TableColumn>(
     targets: &mut [C],
     codes: &[u8; CODED],
     column: usize,
@@ -85,17 +90,67 @@ fn read_long_cell<C: TableColumn>(
     )
 }
 
+// Reads the cell of a column as `read_known` does, the first bytes of a text, so many. Why out of line: docs/DECISIONS.md, code.
+#[inline(never)]
+fn read_known_cell<C: TableColumn>(
+    targets: &mut [C],
+    code: u8,
+    column: usize,
+    row: usize,
+    start: usize,
+    ahead: &[u8],
+    size: usize,
+    dialect: &Dialect<'_>,
+) -> bool
+    requires code { column < length targets.old
+        → IsCodeIn dialect.now code (get_or (map C.target targets.old) column None) }
+    requires usable { AreUsable (row + 1) (map C.target targets.old) }
+    requires within { size ≤ length ahead.now }
+    requires fits { start + size < 2 ^ 64 }
+    ensures fault { IsTrue result → fault_in (answer_at dialect.now
+        (kinds_of (map C.target targets.old)) column
+        (record { start = start; text = take size ahead.now })) ≡ None }
+    ensures targets { IsTrue result → map C.target targets.new ≡ put_read_at row column
+        (answer_at dialect.now (kinds_of (map C.target targets.old)) column
+        (record { start = start; text = take size ahead.now })) (map C.target targets.old) }
+    ensures kept { result ≡ false → map C.target targets.new ≡ map C.target targets.old }
+{
+    if column >= targets.len() {
+        return false;
+    }
+    let cell = Cell {
+        start,
+        text: &ahead[..size],
+        ahead,
+    };
+    read_known(&mut targets[column], code, row, cell, dialect)
+}
+
+// The code of a column. None is kept of those behind the coded ones.
+#[inline(always)]
+fn code_of(codes: &[u8; CODED], column: usize) -> u8
+    ensures coded { column < length codes.now → result ≡ slice_index codes.now column }
+    ensures behind { length codes.now ≤ column → result ≡ 0 }
+{
+    if column < CODED {
+        codes[column]
+    } else {
+        UNKNOWN
+    }
+}
+
 // How many bytes a cell may have whose digits are all read at once.
 const SHORT: usize = 12;
 
-// Reads the cell of a column at once, the first bytes of a text, so many, by the column's code, however many digits it has, and
-// tells whether it did.
+// Reads the cell of a column that `read_coded_cell` has left, the first bytes of a text, so many, by the column's code: more
+// digits, a text, or a number that is had at once. It tells whether it did.
 #[inline(always)]
-pub(crate) fn read_cell_at_once<C: TableColumn>(
+fn read_by_code<C: TableColumn>(
     targets: &mut [C],
     codes: &[u8; CODED],
     column: usize,
     row: usize,
+    start: usize,
     ahead: &[u8],
     size: usize,
     dialect: &Dialect<'_>,
@@ -103,19 +158,62 @@ pub(crate) fn read_cell_at_once<C: TableColumn>(
     requires codes { AreCodes dialect.now codes.now (map C.target targets.old) }
     requires usable { AreUsable (row + 1) (map C.target targets.old) }
     requires room { size + 17 ≤ length ahead.now }
-    ensures fault { IsTrue result → (start : ℕ) → fault_in (answer_at dialect.now
+    requires fits { start + size < 2 ^ 64 }
+    ensures fault { IsTrue result → fault_in (answer_at dialect.now
         (kinds_of (map C.target targets.old)) column
         (record { start = start; text = take size ahead.now })) ≡ None }
-    ensures targets { IsTrue result → (start : ℕ) → map C.target targets.new ≡ put_read_at row
-        column (answer_at dialect.now (kinds_of (map C.target targets.old)) column
+    ensures targets { IsTrue result → map C.target targets.new ≡ put_read_at row column
+        (answer_at dialect.now (kinds_of (map C.target targets.old)) column
         (record { start = start; text = take size ahead.now })) (map C.target targets.old) }
     ensures kept { result ≡ false → map C.target targets.new ≡ map C.target targets.old }
 {
-    if read_coded_cell(targets, codes, column, row, ahead, size, dialect) {
-        return true;
+    let code = code_of(codes, column);
+    if code >= U8 {
+        if size <= SHORT {
+            return false;
+        }
+        return read_long_cell(targets, codes, column, row, ahead, size, dialect);
     }
-    if size <= SHORT {
+    if code <= NOT_READ {
         return false;
     }
-    read_long_cell(targets, codes, column, row, ahead, size, dialect)
+    read_known_cell(targets, code, column, row, start, ahead, size, dialect)
+}
+
+// Reads the cell of a column that `read_coded_cell` has left, the first bytes of a text, so many, and tells whether it is right:
+// else what is wrong is told.
+#[inline(always)]
+pub(crate) fn read_left_cell<C: TableColumn>(
+    targets: &mut [C],
+    codes: &[u8; CODED],
+    column: usize,
+    row: usize,
+    start: usize,
+    ahead: &[u8],
+    size: usize,
+    dialect: &Dialect<'_>,
+    options: &Options,
+    wrong: &mut Option<TableError>,
+) -> bool
+    requires fine { wrong.old ≡ None }
+    requires codes { AreCodes dialect.now codes.now (map C.target targets.old) }
+    requires usable { AreUsable (row + 1) (map C.target targets.old) }
+    requires room { size + 17 ≤ length ahead.now }
+    requires fits { start + size < 2 ^ 64 }
+    ensures right { result ≡ is_none (fault_in (answer_at dialect.now
+        (kinds_of (map C.target targets.old)) column
+        (record { start = start; text = take size ahead.now }))) }
+    ensures fault { wrong.new ≡ option_map (wrong_cell row column) (fault_in
+        (answer_at dialect.now (kinds_of (map C.target targets.old)) column
+        (record { start = start; text = take size ahead.now }))) }
+    ensures targets { map C.target targets.new ≡ put_read_at row column (answer_at dialect.now
+        (kinds_of (map C.target targets.old)) column
+        (record { start = start; text = take size ahead.now })) (map C.target targets.old) }
+{
+    if read_by_code(targets, codes, column, row, start, ahead, size, dialect) {
+        return true;
+    }
+    read_by_column(
+        targets, column, row, start, ahead, size, dialect, options, wrong,
+    )
 }

@@ -23,6 +23,12 @@ pub const UNKNOWN: u8 = 0;
 /// The column's cells aren't read.
 pub const NOT_READ: u8 = 1;
 
+/// The column's cells are texts.
+pub const TEXTS: u8 = 2;
+
+/// The column's cells are numbers, of which `read_at_once` has most.
+pub const AT_ONCE: u8 = 3;
+
 /// Numbers of 8 bits without a sign.
 pub const U8: u8 = 8;
 
@@ -93,8 +99,9 @@ fn ends_in_digit(text: &[u8]) -> bool
     char_is_digit(text[text.len() - 1], 10)
 }
 
-// A column's code in a table: none where blanks are passed, or where the mark may be a number too.
+// A column's code in a table: where blanks are passed, or where the mark may be a number too, its numbers are asked for.
 #[inline(always)]
+#[tactic(auto, using(crate::proofs::CodeSteps::asked_code))]
 fn code_in<C: TableColumn>(target: &C, dialect: &Dialect<'_>, is_mark_number: bool) -> u8
     requires mark { is_mark_number ≡ ends_in_digit dialect.now.missing.now }
     ensures { IsCodeIn dialect.now result (C.target target.now) }
@@ -104,11 +111,11 @@ fn code_in<C: TableColumn>(target: &C, dialect: &Dialect<'_>, is_mark_number: bo
         return code;
     }
     if dialect.allows_blanks {
-        return UNKNOWN;
+        return AT_ONCE;
     }
     if is_mark_number {
         if has_bits(code) {
-            return UNKNOWN;
+            return AT_ONCE;
         }
     }
     code

@@ -3,7 +3,7 @@
 ghost use Rattle.lexical_tables.specs.Targets.{view_of_column};
 
 use crate::cell_text::CellText;
-use crate::codes::{NOT_READ, UNKNOWN};
+use crate::codes::{AT_ONCE, NOT_READ, TEXTS};
 use crate::fixed_targets::FixedTarget;
 use crate::targets::{TableColumn, Target};
 use crate::text_targets::TextTarget;
@@ -81,7 +81,8 @@ impl TableColumn for Column<'_> {
     fn read_at_once(&mut self, row: usize, ahead: &[u8], size: usize) -> bool {
         match self {
             Column::Integers(target) => target.read_at_once(row, ahead, size),
-            Column::Unread | Column::FixedPoints(_) | Column::Texts(_) => false,
+            Column::FixedPoints(target) => target.read_at_once(row, ahead, size),
+            Column::Unread | Column::Texts(_) => false,
         }
     }
 
@@ -115,7 +116,8 @@ impl TableColumn for Column<'_> {
         match self {
             Column::Unread => NOT_READ,
             Column::Integers(target) => target.code(),
-            Column::FixedPoints(_) | Column::Texts(_) => UNKNOWN,
+            Column::FixedPoints(_) => AT_ONCE,
+            Column::Texts(_) => TEXTS,
         }
     }
 

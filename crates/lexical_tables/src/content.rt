@@ -94,6 +94,7 @@ fn without_quotes(cell: Cell<'_>, has_quotes: bool) -> Cell<'_>
 }
 
 // What a cell holds, as a text, by where it stands.
+#[inline(always)]
 pub(crate) fn text_of(held: Cell<'_>, has_quotes: bool) -> CellText
     ensures { view_of_text result ≡ text_of has_quotes (view_of_cell held.entry) }
 {

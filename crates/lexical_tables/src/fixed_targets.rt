@@ -1,15 +1,16 @@
 //! Columns of fixed-point numbers.
 
-ghost use Rattle.std.specs.Prelude.{◌≡◌, ◌+◌, ◌*◌, ◌<◌, ◌≤◌, ◌^◌, IfSome, IsNone, Some, length, map, option_map, pos, set};
+ghost use Rattle.std.specs.Prelude.{◌≡◌, ◌+◌, ◌*◌, ◌<◌, ◌≤◌, ◌^◌, ℕ, IfSome, IsNone, IsTrue, None, Some, false, length, map, option_map, pos, set, take};
 ghost use Rattle.lexical_fixed.specs.Validity.{fixed_fault};
 ghost use Rattle.lexical_tables.specs.ByColumn.{IsUsable};
 ghost use Rattle.lexical_tables.specs.Readings.{Number, fixed_answer};
-ghost use Rattle.lexical_tables.specs.Targets.{error_in, put_text, put_value, text_answer, view_of_fixed, with_number, with_row_bit};
+ghost use Rattle.lexical_tables.specs.Targets.{error_in, put_text, put_value, text_answer, text_fault, view_of_fixed, with_number, with_row_bit};
 
 use crate::numbers::Numbers;
 use crate::targets::put_bit;
 use lexical_fields::error_in_text;
 use lexical_fixed::laws::fault_places;
+use lexical_fixed::quick::value_at_once;
 use lexical_fixed::{FixedFormat, ParseFixed};
 use lexical_parse_integer::Error;
 
@@ -57,6 +58,40 @@ pub fn put_fixed<T: ParseFixed>(
     }
 }
 
+/// Puts the fixed-point number of a text's first bytes, so many, into a row's place of a slice, in units of the last place,
+/// where that is had at once, and tells whether it did. Else it puts nothing, and says nothing of them.
+///
+/// It is had where they are digits around a point, behind a minus or none, and few of them stand behind the point.
+///
+/// It is for a [`TableColumn`](crate::TableColumn) of one's own. The description has to be valid, and the slice has to have
+/// that place.
+#[inline(always)]
+pub fn put_fixed_at_once<T: ParseFixed>(
+    values: &mut [T],
+    row: usize,
+    ahead: &[u8],
+    size: usize,
+    format: &FixedFormat,
+) -> bool
+    requires valid { IsNone (fixed_fault format.now) }
+    requires room { row < length values.old }
+    requires within { size ≤ length ahead.now }
+    ensures fault { IsTrue result → (start : ℕ) → error_in (fixed_answer format.now T.TYPE
+        (record { start = start; text = take size ahead.now })) ≡ None }
+    ensures numbers { IsTrue result → (start : ℕ) → map T.number values.new
+        ≡ with_number row (fixed_answer format.now T.TYPE
+        (record { start = start; text = take size ahead.now })) (map T.number values.old) }
+    ensures kept { result ≡ false → values.new ≡ values.old }
+{
+    match value_at_once::<T>(&ahead[..size], format) {
+        Some(value) => {
+            values[row] = value;
+            true
+        }
+        None => false,
+    }
+}
+
 impl FixedTarget<'_> {
     // Puts 0 into a row's place, and clears the row's bit.
     pub(crate) fn put_missing(&mut self, row: usize)
@@ -88,6 +123,43 @@ impl FixedTarget<'_> {
         if let Some(bytes) = &mut self.present {
             put_bit(bytes, row, is_there);
         }
+    }
+
+    // Puts the number of a text's first bytes, so many, into a row's place, and sets the row's bit, where it is had at once, and
+    // tells whether it did.
+    pub(crate) fn read_at_once(&mut self, row: usize, ahead: &[u8], size: usize) -> bool
+        requires usable { IsUsable (row + 1) (Some (view_of_fixed self.old)) }
+        requires within { size ≤ length ahead.now }
+        ensures fault { IsTrue result → (start : ℕ) → text_fault (Some (view_of_fixed self.old))
+            (record { start = start; text = take size ahead.now }) ≡ None }
+        ensures target { IsTrue result → (start : ℕ) → view_of_fixed self.new ≡ put_text row
+            (record { start = start; text = take size ahead.now }) (view_of_fixed self.old) }
+        ensures kept { result ≡ false → view_of_fixed self.new ≡ view_of_fixed self.old }
+    {
+        if !self.put_number_at_once(row, ahead, size) {
+            return false;
+        }
+        self.put_presence(row, true);
+        true
+    }
+
+    // Puts the number of a text's first bytes, so many, into a row's place, where it is had at once.
+    fn put_number_at_once(&mut self, row: usize, ahead: &[u8], size: usize) -> bool
+        requires valid { IsNone (fixed_fault self.old.format) }
+        requires room { row < length (view_of_fixed self.old).values }
+        requires within { size ≤ length ahead.now }
+        ensures fault { IsTrue result → (start : ℕ) → text_fault (Some (view_of_fixed self.old))
+            (record { start = start; text = take size ahead.now }) ≡ None }
+        ensures target { IsTrue result → (start : ℕ) → view_of_fixed self.new
+            ≡ record (view_of_fixed self.old) {
+              values = with_number row (text_answer (view_of_fixed self.old)
+                  (record { start = start; text = take size ahead.now }))
+                  (view_of_fixed self.old).values;
+            } }
+        ensures kept { result ≡ false → view_of_fixed self.new ≡ view_of_fixed self.old }
+    {
+        self.numbers
+            .put_fixed_at_once(row, ahead, size, &self.format)
     }
 
     // Puts the number of a text into a row's place, and sets the row's bit, or tells the text's fault.

@@ -11,7 +11,7 @@ ghost use Rattle.lexical_tables.specs.Targets.{error_in, numbers_in, slice_in, t
 
 use crate::at_once::put_at_once;
 use crate::column_integer::put_with_sign;
-use crate::fixed_targets::put_fixed;
+use crate::fixed_targets::{put_fixed, put_fixed_at_once};
 use crate::parsed::put_parsed;
 use crate::targets::put_zero;
 use lexical_fixed::FixedFormat;
@@ -147,6 +147,40 @@ impl Numbers<'_> {
             Numbers::I16(values) => put_parsed::<i16>(values, row, start, text, format),
             Numbers::I32(values) => put_parsed::<i32>(values, row, start, text, format),
             Numbers::I64(values) => put_parsed::<i64>(values, row, start, text, format),
+        }
+    }
+
+    // Puts the fixed-point number of a text's first bytes, so many, into a row's place, where it is had at once, and tells whether
+    // it did.
+    pub(crate) fn put_fixed_at_once(
+        &mut self,
+        row: usize,
+        ahead: &[u8],
+        size: usize,
+        format: &FixedFormat,
+    ) -> bool
+        requires valid { IsNone (fixed_fault format.now) }
+        requires room { row < length (numbers_in self.old) }
+        requires within { size ≤ length ahead.now }
+        ensures fault { IsTrue result → (start : ℕ)
+            → error_in (fixed_answer format.now (type_of self.old)
+            (record { start = start; text = take size ahead.now })) ≡ None }
+        ensures same_type { type_of self.new ≡ type_of self.old }
+        ensures same_slice { slice_in self.new ≡ slice_in self.old }
+        ensures numbers { IsTrue result → (start : ℕ) → numbers_in self.new
+            ≡ with_number row (fixed_answer format.now (type_of self.old)
+            (record { start = start; text = take size ahead.now })) (numbers_in self.old) }
+        ensures kept { result ≡ false → numbers_in self.new ≡ numbers_in self.old }
+    {
+        match self {
+            Numbers::U8(values) => put_fixed_at_once::<u8>(values, row, ahead, size, format),
+            Numbers::U16(values) => put_fixed_at_once::<u16>(values, row, ahead, size, format),
+            Numbers::U32(values) => put_fixed_at_once::<u32>(values, row, ahead, size, format),
+            Numbers::U64(values) => put_fixed_at_once::<u64>(values, row, ahead, size, format),
+            Numbers::I8(values) => put_fixed_at_once::<i8>(values, row, ahead, size, format),
+            Numbers::I16(values) => put_fixed_at_once::<i16>(values, row, ahead, size, format),
+            Numbers::I32(values) => put_fixed_at_once::<i32>(values, row, ahead, size, format),
+            Numbers::I64(values) => put_fixed_at_once::<i64>(values, row, ahead, size, format),
         }
     }
 

@@ -9,11 +9,10 @@ ghost use Rattle.lexical_tables.specs.RowSoFar.{IsMarked};
 ghost use Rattle.lexical_tables.specs.Rows.{FirstCounts, behind_piece, carriage_return, first_row, rows_from};
 
 use crate::answers::{CellFault, Table, TableError};
-use crate::by_column::{put_end_fault, read_by_column, read_rest};
+use crate::by_column::{put_end_fault, read_rest};
 use crate::cells::column_count;
-use crate::coded_cells::read_cell_at_once;
+use crate::coded_cells::{read_coded_cell, read_left_cell};
 use crate::codes::{CODED, UNKNOWN, put_codes};
-use crate::content::Cell;
 use crate::dialect::{Dialect, Layout};
 use crate::ends::{LEAST_MARKED, next_ends};
 use crate::next_part::{Left, lacks_return, next_part};
@@ -89,13 +88,11 @@ fn read_marked_row<'a, C: TableColumn>(
             };
         }
         let part = next_part(text.text, left.text, marks, separator, dialect);
-        if !read_cell_at_once(targets, codes, column, index, left.text, part.size, dialect) {
-            let cell = Cell {
-                start: start + (text.text.len() - left.text.len()),
-                text: &left.text[..part.size],
-                ahead: left.text,
-            };
-            if !read_by_column(targets, column, index, cell, dialect, options, wrong) {
+        if !read_coded_cell(targets, codes, column, index, left.text, part.size, dialect) {
+            let place = start + (text.text.len() - left.text.len());
+            if !read_left_cell(
+                targets, codes, column, index, place, left.text, part.size, dialect, options, wrong,
+            ) {
                 return part.behind;
             }
         }

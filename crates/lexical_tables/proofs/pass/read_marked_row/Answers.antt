@@ -10,7 +10,7 @@ use Rattle.lexical_tables.proofs.CellsLeft.{cells_begin}
 use Rattle.lexical_tables.proofs.CodeSteps.{codes_put}
 use Rattle.lexical_tables.proofs.ColumnSteps.{after_cell, after_fault, row_ends, row_starts}
 use Rattle.lexical_tables.proofs.PassSteps.{IsCellRead, cell_starts, end_fine, none_wrong, passed_low, read_kept, row_begins, row_size, some_wrong, too_many}
-use Rattle.lexical_tables.proofs.pass.read_marked_row.Goals.{else-not-read_cell_at_once, then-not-read_cell_at_once+else-not-read_by_column}
+use Rattle.lexical_tables.proofs.pass.read_marked_row.Goals.{else-not-read_coded_cell, then-not-read_coded_cell+else-not-read_left_cell}
 use Rattle.lexical_tables.proofs.pass.read_marked_row.Goals as goal
 
 pub loop-column-init : goal.loop-column-init
@@ -39,8 +39,8 @@ read_rest-behind-requires-clause-passed g c =
       row_size d c.args.separator c.requires.marked c.args.start text,
     )
 
-pub returns-then-not-read_by_column-clause-fault : goal.returns-then-not-read_by_column-clause-fault
-returns-then-not-read_by_column-clause-fault g c =
+pub returns-then-not-read_left_cell-clause-fault : goal.returns-then-not-read_left_cell-clause-fault
+returns-then-not-read_left_cell-clause-fault g c =
     let d = c.args.dialect.now in
     let text = c.args.text.text.now in
     let left = c.loop-column.left.text.now in
@@ -51,21 +51,21 @@ returns-then-not-read_by_column-clause-fault g c =
     let old = map g.C.TableColumn.target c.args.targets.now in
     let before = map g.C.TableColumn.target c.loop-column.targets in
     let cell : FieldView = record { start = c.args.start + (length text - length left); text = take part.result.size left } in
-    let kept = c.if-not-read_cell_at_once.ensures.kept refl in
-    let found = fault_in (answer_at d (kinds_of (map g.C.TableColumn.target c.read_cell_at_once.new.targets)) column cell) in
-    let told : IsRowDone kinds d c.args.index row old (map g.C.TableColumn.target c.read_by_column.new.targets)
-    (option_map (wrong_cell c.args.index column) found) = some_wrong found c.if-not-read_by_column.ensures.right
-    (λ f. IsRowDone kinds d c.args.index row old (map g.C.TableColumn.target c.read_by_column.new.targets)
+    let kept = c.if-not-read_coded_cell.ensures.kept refl in
+    let found = fault_in (answer_at d (kinds_of (map g.C.TableColumn.target c.read_coded_cell.new.targets)) column cell) in
+    let told : IsRowDone kinds d c.args.index row old (map g.C.TableColumn.target c.read_left_cell.new.targets)
+    (option_map (wrong_cell c.args.index column) found) = some_wrong found c.if-not-read_left_cell.ensures.right
+    (λ f. IsRowDone kinds d c.args.index row old (map g.C.TableColumn.target c.read_left_cell.new.targets)
     (option_map (wrong_cell c.args.index column) f))
     (λ fault is. after_fault kinds d c.args.index row old before column
     _ c.loop-column.invariant.4 cell _ (part.ensures.cells c.args.start column) (grind (arith, nat_tests))
-    (map g.C.TableColumn.target c.read_by_column.new.targets) fault
+    (map g.C.TableColumn.target c.read_left_cell.new.targets) fault
     (is ∙ ap (λ l. fault_in (answer_at d (kinds_of l) column cell)) kept)
-    (c.read_by_column.ensures.targets ∙ ap (λ l. put_read_at c.args.index column (answer_at d (kinds_of l) column cell) l) kept)) in
-    c.read_by_column.ensures.fault ∙ told.fault_is
+    (c.read_left_cell.ensures.targets ∙ ap (λ l. put_read_at c.args.index column (answer_at d (kinds_of l) column cell) l) kept)) in
+    c.read_left_cell.ensures.fault ∙ told.fault_is
 
-pub returns-then-not-read_by_column-clause-targets : goal.returns-then-not-read_by_column-clause-targets
-returns-then-not-read_by_column-clause-targets g c =
+pub returns-then-not-read_left_cell-clause-targets : goal.returns-then-not-read_left_cell-clause-targets
+returns-then-not-read_left_cell-clause-targets g c =
     let d = c.args.dialect.now in
     let text = c.args.text.text.now in
     let left = c.loop-column.left.text.now in
@@ -76,17 +76,17 @@ returns-then-not-read_by_column-clause-targets g c =
     let old = map g.C.TableColumn.target c.args.targets.now in
     let before = map g.C.TableColumn.target c.loop-column.targets in
     let cell : FieldView = record { start = c.args.start + (length text - length left); text = take part.result.size left } in
-    let kept = c.if-not-read_cell_at_once.ensures.kept refl in
-    let found = fault_in (answer_at d (kinds_of (map g.C.TableColumn.target c.read_cell_at_once.new.targets)) column cell) in
-    let told : IsRowDone kinds d c.args.index row old (map g.C.TableColumn.target c.read_by_column.new.targets)
-    (option_map (wrong_cell c.args.index column) found) = some_wrong found c.if-not-read_by_column.ensures.right
-    (λ f. IsRowDone kinds d c.args.index row old (map g.C.TableColumn.target c.read_by_column.new.targets)
+    let kept = c.if-not-read_coded_cell.ensures.kept refl in
+    let found = fault_in (answer_at d (kinds_of (map g.C.TableColumn.target c.read_coded_cell.new.targets)) column cell) in
+    let told : IsRowDone kinds d c.args.index row old (map g.C.TableColumn.target c.read_left_cell.new.targets)
+    (option_map (wrong_cell c.args.index column) found) = some_wrong found c.if-not-read_left_cell.ensures.right
+    (λ f. IsRowDone kinds d c.args.index row old (map g.C.TableColumn.target c.read_left_cell.new.targets)
     (option_map (wrong_cell c.args.index column) f))
     (λ fault is. after_fault kinds d c.args.index row old before column
     _ c.loop-column.invariant.4 cell _ (part.ensures.cells c.args.start column) (grind (arith, nat_tests))
-    (map g.C.TableColumn.target c.read_by_column.new.targets) fault
+    (map g.C.TableColumn.target c.read_left_cell.new.targets) fault
     (is ∙ ap (λ l. fault_in (answer_at d (kinds_of l) column cell)) kept)
-    (c.read_by_column.ensures.targets ∙ ap (λ l. put_read_at c.args.index column (answer_at d (kinds_of l) column cell) l) kept)) in
+    (c.read_left_cell.ensures.targets ∙ ap (λ l. put_read_at c.args.index column (answer_at d (kinds_of l) column cell) l) kept)) in
     told.targets_are
 
 pub loop-column-preserved : goal.loop-column-preserved
@@ -101,20 +101,20 @@ loop-column-preserved g c =
     let old = map g.C.TableColumn.target c.args.targets.now in
     let before = map g.C.TableColumn.target c.loop-column.targets in
     let cell : FieldView = record { start = c.args.start + (length text - length left); text = take part.result.size left } in
-    let now = map g.C.TableColumn.target c.if-not-read_cell_at_once.targets in
-    let read : IsCellRead d c.args.index column cell before now × (c.if-not-read_cell_at_once.wrong ≡ None) =
-    elim c.if-not-read_cell_at_once.branch [
-      | then-not-read_cell_at_once+else-not-read_by_column w ↦
-          let kept = w.if-not-read_cell_at_once.ensures.kept refl in
-          let fine = none_wrong _ w.if-not-read_by_column.ensures.right in (
+    let now = map g.C.TableColumn.target c.if-not-read_coded_cell.targets in
+    let read : IsCellRead d c.args.index column cell before now × (c.if-not-read_coded_cell.wrong ≡ None) =
+    elim c.if-not-read_coded_cell.branch [
+      | then-not-read_coded_cell+else-not-read_left_cell w ↦
+          let kept = w.if-not-read_coded_cell.ensures.kept refl in
+          let fine = none_wrong _ w.if-not-read_left_cell.ensures.right in (
             read_kept d c.args.index column cell before _ now kept
-                (record { fine = fine; put = ap (map g.C.TableColumn.target) w.targets-is ∙ w.read_by_column.ensures.targets }),
-            w.wrong-is ∙ w.read_by_column.ensures.fault ∙ ap (option_map (wrong_cell c.args.index column)) (sym fine),
+                (record { fine = fine; put = ap (map g.C.TableColumn.target) w.targets-is ∙ w.read_left_cell.ensures.targets }),
+            w.wrong-is ∙ w.read_left_cell.ensures.fault ∙ ap (option_map (wrong_cell c.args.index column)) (sym fine),
           )
-      | else-not-read_cell_at_once w ↦ (
+      | else-not-read_coded_cell w ↦ (
         record {
-          fine = sym (w.if-not-read_cell_at_once.ensures.fault refl cell.start);
-          put = ap (map g.C.TableColumn.target) w.targets-is ∙ w.if-not-read_cell_at_once.ensures.targets refl cell.start;
+          fine = sym (w.if-not-read_coded_cell.ensures.fault refl cell.start);
+          put = ap (map g.C.TableColumn.target) w.targets-is ∙ w.if-not-read_coded_cell.ensures.targets refl cell.start;
         },
         w.wrong-is ∙ c.loop-column.invariant.3,
       )
@@ -142,20 +142,20 @@ returns-then-not-lacks_return-clause-fault g c =
     let old = map g.C.TableColumn.target c.args.targets.now in
     let before = map g.C.TableColumn.target c.loop-column.targets in
     let cell : FieldView = record { start = c.args.start + (length text - length left); text = take part.result.size left } in
-    let now = map g.C.TableColumn.target c.if-not-read_cell_at_once.targets in
-    let read : IsCellRead d c.args.index column cell before now × (c.if-not-read_cell_at_once.wrong ≡ None) =
-    elim c.if-not-read_cell_at_once.branch [
-      | then-not-read_cell_at_once+else-not-read_by_column w ↦
-          let kept = w.if-not-read_cell_at_once.ensures.kept refl in
-          let fine = none_wrong _ w.if-not-read_by_column.ensures.right in (
+    let now = map g.C.TableColumn.target c.if-not-read_coded_cell.targets in
+    let read : IsCellRead d c.args.index column cell before now × (c.if-not-read_coded_cell.wrong ≡ None) =
+    elim c.if-not-read_coded_cell.branch [
+      | then-not-read_coded_cell+else-not-read_left_cell w ↦
+          let kept = w.if-not-read_coded_cell.ensures.kept refl in
+          let fine = none_wrong _ w.if-not-read_left_cell.ensures.right in (
             read_kept d c.args.index column cell before _ now kept
-                (record { fine = fine; put = ap (map g.C.TableColumn.target) w.targets-is ∙ w.read_by_column.ensures.targets }),
-            w.wrong-is ∙ w.read_by_column.ensures.fault ∙ ap (option_map (wrong_cell c.args.index column)) (sym fine),
+                (record { fine = fine; put = ap (map g.C.TableColumn.target) w.targets-is ∙ w.read_left_cell.ensures.targets }),
+            w.wrong-is ∙ w.read_left_cell.ensures.fault ∙ ap (option_map (wrong_cell c.args.index column)) (sym fine),
           )
-      | else-not-read_cell_at_once w ↦ (
+      | else-not-read_coded_cell w ↦ (
         record {
-          fine = sym (w.if-not-read_cell_at_once.ensures.fault refl cell.start);
-          put = ap (map g.C.TableColumn.target) w.targets-is ∙ w.if-not-read_cell_at_once.ensures.targets refl cell.start;
+          fine = sym (w.if-not-read_coded_cell.ensures.fault refl cell.start);
+          put = ap (map g.C.TableColumn.target) w.targets-is ∙ w.if-not-read_coded_cell.ensures.targets refl cell.start;
         },
         w.wrong-is ∙ c.loop-column.invariant.3,
       )
@@ -182,20 +182,20 @@ returns-then-part-clause-fault g c =
     let old = map g.C.TableColumn.target c.args.targets.now in
     let before = map g.C.TableColumn.target c.loop-column.targets in
     let cell : FieldView = record { start = c.args.start + (length text - length left); text = take part.result.size left } in
-    let now = map g.C.TableColumn.target c.if-not-read_cell_at_once.targets in
-    let read : IsCellRead d c.args.index column cell before now × (c.if-not-read_cell_at_once.wrong ≡ None) =
-    elim c.if-not-read_cell_at_once.branch [
-      | then-not-read_cell_at_once+else-not-read_by_column w ↦
-          let kept = w.if-not-read_cell_at_once.ensures.kept refl in
-          let fine = none_wrong _ w.if-not-read_by_column.ensures.right in (
+    let now = map g.C.TableColumn.target c.if-not-read_coded_cell.targets in
+    let read : IsCellRead d c.args.index column cell before now × (c.if-not-read_coded_cell.wrong ≡ None) =
+    elim c.if-not-read_coded_cell.branch [
+      | then-not-read_coded_cell+else-not-read_left_cell w ↦
+          let kept = w.if-not-read_coded_cell.ensures.kept refl in
+          let fine = none_wrong _ w.if-not-read_left_cell.ensures.right in (
             read_kept d c.args.index column cell before _ now kept
-                (record { fine = fine; put = ap (map g.C.TableColumn.target) w.targets-is ∙ w.read_by_column.ensures.targets }),
-            w.wrong-is ∙ w.read_by_column.ensures.fault ∙ ap (option_map (wrong_cell c.args.index column)) (sym fine),
+                (record { fine = fine; put = ap (map g.C.TableColumn.target) w.targets-is ∙ w.read_left_cell.ensures.targets }),
+            w.wrong-is ∙ w.read_left_cell.ensures.fault ∙ ap (option_map (wrong_cell c.args.index column)) (sym fine),
           )
-      | else-not-read_cell_at_once w ↦ (
+      | else-not-read_coded_cell w ↦ (
         record {
-          fine = sym (w.if-not-read_cell_at_once.ensures.fault refl cell.start);
-          put = ap (map g.C.TableColumn.target) w.targets-is ∙ w.if-not-read_cell_at_once.ensures.targets refl cell.start;
+          fine = sym (w.if-not-read_coded_cell.ensures.fault refl cell.start);
+          put = ap (map g.C.TableColumn.target) w.targets-is ∙ w.if-not-read_coded_cell.ensures.targets refl cell.start;
         },
         w.wrong-is ∙ c.loop-column.invariant.3,
       )
@@ -228,20 +228,20 @@ returns-then-not-lacks_return-clause-targets g c =
     let old = map g.C.TableColumn.target c.args.targets.now in
     let before = map g.C.TableColumn.target c.loop-column.targets in
     let cell : FieldView = record { start = c.args.start + (length text - length left); text = take part.result.size left } in
-    let now = map g.C.TableColumn.target c.if-not-read_cell_at_once.targets in
-    let read : IsCellRead d c.args.index column cell before now × (c.if-not-read_cell_at_once.wrong ≡ None) =
-    elim c.if-not-read_cell_at_once.branch [
-      | then-not-read_cell_at_once+else-not-read_by_column w ↦
-          let kept = w.if-not-read_cell_at_once.ensures.kept refl in
-          let fine = none_wrong _ w.if-not-read_by_column.ensures.right in (
+    let now = map g.C.TableColumn.target c.if-not-read_coded_cell.targets in
+    let read : IsCellRead d c.args.index column cell before now × (c.if-not-read_coded_cell.wrong ≡ None) =
+    elim c.if-not-read_coded_cell.branch [
+      | then-not-read_coded_cell+else-not-read_left_cell w ↦
+          let kept = w.if-not-read_coded_cell.ensures.kept refl in
+          let fine = none_wrong _ w.if-not-read_left_cell.ensures.right in (
             read_kept d c.args.index column cell before _ now kept
-                (record { fine = fine; put = ap (map g.C.TableColumn.target) w.targets-is ∙ w.read_by_column.ensures.targets }),
-            w.wrong-is ∙ w.read_by_column.ensures.fault ∙ ap (option_map (wrong_cell c.args.index column)) (sym fine),
+                (record { fine = fine; put = ap (map g.C.TableColumn.target) w.targets-is ∙ w.read_left_cell.ensures.targets }),
+            w.wrong-is ∙ w.read_left_cell.ensures.fault ∙ ap (option_map (wrong_cell c.args.index column)) (sym fine),
           )
-      | else-not-read_cell_at_once w ↦ (
+      | else-not-read_coded_cell w ↦ (
         record {
-          fine = sym (w.if-not-read_cell_at_once.ensures.fault refl cell.start);
-          put = ap (map g.C.TableColumn.target) w.targets-is ∙ w.if-not-read_cell_at_once.ensures.targets refl cell.start;
+          fine = sym (w.if-not-read_coded_cell.ensures.fault refl cell.start);
+          put = ap (map g.C.TableColumn.target) w.targets-is ∙ w.if-not-read_coded_cell.ensures.targets refl cell.start;
         },
         w.wrong-is ∙ c.loop-column.invariant.3,
       )
@@ -268,20 +268,20 @@ returns-then-part-clause-targets g c =
     let old = map g.C.TableColumn.target c.args.targets.now in
     let before = map g.C.TableColumn.target c.loop-column.targets in
     let cell : FieldView = record { start = c.args.start + (length text - length left); text = take part.result.size left } in
-    let now = map g.C.TableColumn.target c.if-not-read_cell_at_once.targets in
-    let read : IsCellRead d c.args.index column cell before now × (c.if-not-read_cell_at_once.wrong ≡ None) =
-    elim c.if-not-read_cell_at_once.branch [
-      | then-not-read_cell_at_once+else-not-read_by_column w ↦
-          let kept = w.if-not-read_cell_at_once.ensures.kept refl in
-          let fine = none_wrong _ w.if-not-read_by_column.ensures.right in (
+    let now = map g.C.TableColumn.target c.if-not-read_coded_cell.targets in
+    let read : IsCellRead d c.args.index column cell before now × (c.if-not-read_coded_cell.wrong ≡ None) =
+    elim c.if-not-read_coded_cell.branch [
+      | then-not-read_coded_cell+else-not-read_left_cell w ↦
+          let kept = w.if-not-read_coded_cell.ensures.kept refl in
+          let fine = none_wrong _ w.if-not-read_left_cell.ensures.right in (
             read_kept d c.args.index column cell before _ now kept
-                (record { fine = fine; put = ap (map g.C.TableColumn.target) w.targets-is ∙ w.read_by_column.ensures.targets }),
-            w.wrong-is ∙ w.read_by_column.ensures.fault ∙ ap (option_map (wrong_cell c.args.index column)) (sym fine),
+                (record { fine = fine; put = ap (map g.C.TableColumn.target) w.targets-is ∙ w.read_left_cell.ensures.targets }),
+            w.wrong-is ∙ w.read_left_cell.ensures.fault ∙ ap (option_map (wrong_cell c.args.index column)) (sym fine),
           )
-      | else-not-read_cell_at_once w ↦ (
+      | else-not-read_coded_cell w ↦ (
         record {
-          fine = sym (w.if-not-read_cell_at_once.ensures.fault refl cell.start);
-          put = ap (map g.C.TableColumn.target) w.targets-is ∙ w.if-not-read_cell_at_once.ensures.targets refl cell.start;
+          fine = sym (w.if-not-read_coded_cell.ensures.fault refl cell.start);
+          put = ap (map g.C.TableColumn.target) w.targets-is ∙ w.if-not-read_coded_cell.ensures.targets refl cell.start;
         },
         w.wrong-is ∙ c.loop-column.invariant.3,
       )

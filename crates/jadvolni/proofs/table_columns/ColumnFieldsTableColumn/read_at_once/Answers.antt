@@ -6,13 +6,13 @@ use Rattle.jadvolni.proofs.table_columns.ColumnFieldsTableColumn.read_at_once.Go
 pub put_presence-requires : goal.put_presence-requires
 put_presence-requires c = record {
   usable = number_usable (c.args.row + 1) c.args.row (record { start = 0; text = take c.args.size c.args.ahead.now })
-      (target_of c.args.self.now) (target_of c.put_standard_at_once.new.self) c.requires.usable
-      (c.if-not-put_standard_at_once.ensures.target refl 0);
+      (target_of c.args.self.now) (target_of c.put_number_at_once.new.self) c.requires.usable
+      (c.if-not-put_number_at_once.ensures.target refl 0);
 }
 
 pub returns-clause-target : goal.returns-clause-target
 returns-clause-target c = λ yes start.
     number_read c.args.row (record { start = start; text = take c.args.size c.args.ahead.now })
-    (target_of c.args.self.now) (target_of c.put_standard_at_once.new.self) (target_of c.put_presence.new.self)
-    (sym (c.if-not-put_standard_at_once.ensures.fault refl start))
-    (c.if-not-put_standard_at_once.ensures.target refl start) c.put_presence.ensures
+    (target_of c.args.self.now) (target_of c.put_number_at_once.new.self) (target_of c.put_presence.new.self)
+    (sym (c.if-not-put_number_at_once.ensures.fault refl start))
+    (c.if-not-put_number_at_once.ensures.target refl start) c.put_presence.ensures

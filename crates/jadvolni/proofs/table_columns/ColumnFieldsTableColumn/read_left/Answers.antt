@@ -13,7 +13,7 @@ pub returns-then-is_text-clause-target : goal.returns-then-is_text-clause-target
 returns-then-is_text-clause-target c =
     let text : FieldView = record { start = c.args.start; text = c.args.text.now } in
     let before = target_of c.args.self.now in
-    c.keep_text.ensures
+    c.put_text.ensures.text (sym c.is_text.ensures ∙ c.if-is_text.true)
     ∙ whole_put c.args.row text before (sym c.is_text.ensures ∙ c.if-is_text.true)
 
 pub returns-in-Some-clause-target : goal.returns-in-Some-clause-target

@@ -1,0 +1,55 @@
+use Rattle.std.proofs.Common.{◌≡◌, ◌∙◌, ◌+◌, None, Option, Some, ap, refl, sym, take, true, false}
+use Rattle.std.specs.Prelude.{IsNone}
+use Rattle.lexical_util.specs.Number.{IntegerType}
+use Rattle.lexical_fields.specs.Fields.{FieldView}
+use Rattle.lexical_fixed.specs.Fixed.{Fixed}
+use Rattle.lexical_fixed.specs.Validity.{fixed_fault}
+use Rattle.lexical_fixed.specs.declared.error.FixedFormatError.{FixedFormatError}
+use Rattle.lexical_parse_integer.specs.Answer.{view_of}
+use Rattle.lexical_tables.specs.Readings.{Number, answer_by, fixed_answer}
+use Rattle.lexical_tables.specs.Targets.{keeps_text}
+use Rattle.jadvolni.specs.Fixed.{fixed_of}
+use Rattle.jadvolni.specs.Tables.{reading_of, target_of}
+use Rattle.jadvolni.proofs.ColumnNumbers.{fault_there, fixed_point_answer, kept_there, no_texts_there, put_there, room_for, valid_fixed}
+use Rattle.jadvolni.proofs.table_columns.ColumnFields.put_fixed_at_once.Goals as goal
+
+none_is : (fault : Option FixedFormatError) → fault ≡ None → IsNone fault
+none_is None is = refl
+none_is (Some fault) is = absurd cc
+
+pub put_fixed_at_once-requires : goal.put_fixed_at_once-requires
+put_fixed_at_once-requires c =
+    let column = c.args.self.now in
+    let same : c.plain-format.result ≡ fixed_of column.description = c.plain-format.ensures
+    ∙ ap (λ integer. record (fixed_of column.description) { integer = integer })
+    (sym (c.if-not-has_standard_integer.ensures.integer refl)) in
+    record {
+      valid = none_is (fixed_fault c.plain-format.result) (ap fixed_fault same
+          ∙ valid_fixed column (c.args.row + 1) _ (sym c.number_type.ensures ∙ c.in-Some.is) c.requires.places c.requires.usable);
+      room = room_for column c.args.row c.requires.usable;
+      within = c.requires.within;
+    }
+
+pub returns : goal.returns
+returns c =
+    let column = c.args.self.now in
+    let format = c.plain-format.result in
+    let same : format ≡ fixed_of column.description = c.plain-format.ensures
+    ∙ ap (λ integer. record (fixed_of column.description) { integer = integer })
+    (sym (c.if-not-has_standard_integer.ensures.integer refl)) in
+    let numbers : keeps_text (target_of column) ≡ false = no_texts_there column _ (sym c.number_type.ensures ∙ c.in-Some.is) in
+    let read : (text : FieldView) (type : IntegerType) → view_of Number (fixed_answer format type text)
+    ≡ answer_by (reading_of column.description type) text = λ text type. ap (λ it. view_of Number (fixed_answer it type text)) same
+    ∙ fixed_point_answer column.description type text c.requires.places in
+    record {
+      fault = λ did start.
+          let text : FieldView = record { start = start; text = take c.args.size c.args.ahead.now } in
+          sym (fault_there column c.put_fixed_at_once.new.self numbers c.args.row text
+          (λ type. fixed_answer format type text) (read text))
+          ∙ c.put_fixed_at_once.ensures.fault did start;
+      target = λ did start.
+          let text : FieldView = record { start = start; text = take c.args.size c.args.ahead.now } in
+          put_there column c.put_fixed_at_once.new.self numbers c.args.row text
+          (λ type. fixed_answer format type text) (read text) (c.put_fixed_at_once.ensures.numbers did start);
+      kept = λ did_not. kept_there column c.put_fixed_at_once.new.self numbers (c.put_fixed_at_once.ensures.kept did_not);
+    }

@@ -1,0 +1,73 @@
+//! The columns of a table that have fixed-point numbers.
+
+ghost use Rattle.std.specs.Prelude.{◌≡◌, ◌≢◌, ◌+◌, ◌<◌, ◌≤◌, ◌^◌, ℕ, IsTrue, None, false, length, take, option_map};
+ghost use Rattle.lexical_tables.specs.ByColumn.{IsUsable};
+ghost use Rattle.lexical_tables.specs.Targets.{keeps_text, text_fault};
+ghost use Rattle.jadvolni.specs.Fixed.{fixed_of};
+ghost use Rattle.jadvolni.specs.Tables.{put_number, target_of};
+
+use crate::table_columns::ColumnFields;
+use lexical_fixed::FixedFormat;
+use lexical_parse_integer::Error;
+
+impl ColumnFields<'_> {
+    // The description of its fixed-point numbers. A plain one isn't made field by field.
+    #[inline(always)]
+    #[tactic(auto, using(crate::proofs::ColumnNumbers::plain_is))]
+    fn fixed_format(&self) -> FixedFormat
+        ensures { result ≡ fixed_of self.now.description }
+    {
+        if self.description.is_plain() {
+            return self.description.plain();
+        }
+        self.description.format()
+    }
+
+    // Puts the fixed-point number of a text into a row's place, or tells the text's fault.
+    #[inline(never)]
+    pub(crate) fn put_fixed_number(
+        &mut self,
+        row: usize,
+        start: usize,
+        text: &[u8],
+    ) -> Option<Error>
+        requires numbers { keeps_text (target_of self.old) ≡ false }
+        requires places { self.old.description.places ≢ 0 }
+        requires usable { IsUsable (row + 1) (target_of self.old) }
+        requires fits { start + length text.now < 2 ^ 64 }
+        ensures fault { result ≡ text_fault (target_of self.old)
+            (record { start = start; text = text.now }) }
+        ensures target { target_of self.new ≡ option_map (put_number row
+            (record { start = start; text = text.now })) (target_of self.old) }
+    {
+        let Some(_) = self.arrays.number_type() else {
+            return None;
+        };
+        let format = self.fixed_format();
+        self.arrays.put_fixed(row, start, text, &format)
+    }
+
+    // Puts the fixed-point number of a text's first bytes, so many, into a row's place, where it is had at once and its integer
+    // part has the standard format.
+    #[inline(never)]
+    pub(crate) fn put_fixed_at_once(&mut self, row: usize, ahead: &[u8], size: usize) -> bool
+        requires places { self.old.description.places ≢ 0 }
+        requires usable { IsUsable (row + 1) (target_of self.old) }
+        requires within { size ≤ length ahead.now }
+        ensures fault { IsTrue result → (start : ℕ) → text_fault (target_of self.old)
+            (record { start = start; text = take size ahead.now }) ≡ None }
+        ensures target { IsTrue result → (start : ℕ) → target_of self.new
+            ≡ option_map (put_number row (record { start = start; text = take size ahead.now }))
+            (target_of self.old) }
+        ensures kept { result ≡ false → target_of self.new ≡ target_of self.old }
+    {
+        if !self.description.has_standard_integer() {
+            return false;
+        }
+        let Some(_) = self.arrays.number_type() else {
+            return false;
+        };
+        let format = self.description.plain();
+        self.arrays.put_fixed_at_once(row, ahead, size, &format)
+    }
+}

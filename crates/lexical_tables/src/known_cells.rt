@@ -1,0 +1,125 @@
+//! Cells whose columns have texts, or numbers that are had at once.
+
+ghost use Rattle.std.specs.Prelude.{◌≡◌, ◌+◌, ◌<◌, ◌≤◌, ◌^◌, IsTrue, None, false, length, option_map, take, true};
+ghost use Rattle.lexical_tables.specs.ByColumn.{IsUsable, fault_in, kind_of, put_read};
+ghost use Rattle.lexical_tables.specs.Cells.{answer_as, quote_fault, view_of_cell};
+ghost use Rattle.lexical_tables.specs.Codes.{IsCodeIn};
+ghost use Rattle.lexical_tables.specs.Targets.{has_numbers, keeps_text, put_text, text_fault};
+
+use crate::codes::{AT_ONCE, TEXTS};
+use crate::content::{Cell, content, text_of};
+use crate::dialect::Dialect;
+use crate::misplaced::quote_fault;
+use crate::targets::TableColumn;
+
+// Reads a cell in its column of texts, if its quotes are in place, and tells whether they are: it holds the mark, or a text, and
+// where that stands goes to the row's place.
+#[inline(always)]
+pub(crate) fn read_text<C: TableColumn>(
+    target: &mut C,
+    row: usize,
+    cell: Cell<'_>,
+    dialect: &Dialect<'_>,
+) -> bool
+    requires usable { IsUsable (row + 1) (C.target target.old) }
+    requires text { keeps_text (C.target target.old) ≡ true }
+    requires front { cell.text.now ≡ take (length cell.text.now) cell.ahead.now }
+    requires fits { cell.start + length cell.text.now < 2 ^ 64 }
+    ensures right { IsTrue result → fault_in (answer_as dialect.now
+        (option_map kind_of (C.target target.old)) (view_of_cell cell.entry)) ≡ None }
+    ensures wrong { result ≡ false → fault_in (answer_as dialect.now
+        (option_map kind_of (C.target target.old)) (view_of_cell cell.entry))
+        ≡ quote_fault dialect.now.has_quotes false (view_of_cell cell.entry) }
+    ensures target { C.target target.new ≡ option_map (put_read row (answer_as dialect.now
+        (option_map kind_of (C.target target.old)) (view_of_cell cell.entry)))
+        (C.target target.old) }
+    ensures kept { result ≡ false → C.target target.new ≡ C.target target.old }
+{
+    if quote_fault(dialect.has_quotes, false, cell).is_some() {
+        return false;
+    }
+    let held = content(cell, dialect.has_quotes, false);
+    let is_missing = target.may_miss() && held.text == dialect.missing;
+    if is_missing {
+        target.put_missing(row);
+    } else {
+        target.keep_text(row, text_of(held, dialect.has_quotes));
+    }
+    true
+}
+
+// The number of what a cell holds goes to the row's place, where it is had at once: whether it did.
+#[inline(always)]
+pub(crate) fn had_at_once<C: TableColumn>(target: &mut C, row: usize, held: Cell<'_>) -> bool
+    requires usable { IsUsable (row + 1) (C.target target.old) }
+    requires front { held.text.now ≡ take (length held.text.now) held.ahead.now }
+    ensures fault { IsTrue result
+        → text_fault (C.target target.old) (view_of_cell held.entry) ≡ None }
+    ensures target { IsTrue result → C.target target.new
+        ≡ option_map (put_text row (view_of_cell held.entry)) (C.target target.old) }
+    ensures kept { result ≡ false → C.target target.new ≡ C.target target.old }
+{
+    target.read_at_once(row, held.ahead, held.text.len())
+}
+
+// Reads a cell in its column of numbers, where its quotes are in place and it holds the mark, or a number that is had at once,
+// and tells whether it did.
+#[inline(always)]
+fn read_number_at_once<C: TableColumn>(
+    target: &mut C,
+    row: usize,
+    cell: Cell<'_>,
+    dialect: &Dialect<'_>,
+) -> bool
+    requires usable { IsUsable (row + 1) (C.target target.old) }
+    requires numbers { has_numbers (C.target target.old) ≡ true }
+    requires front { cell.text.now ≡ take (length cell.text.now) cell.ahead.now }
+    requires fits { cell.start + length cell.text.now < 2 ^ 64 }
+    ensures fault { IsTrue result → fault_in (answer_as dialect.now
+        (option_map kind_of (C.target target.old)) (view_of_cell cell.entry)) ≡ None }
+    ensures target { IsTrue result → C.target target.new ≡ option_map (put_read row
+        (answer_as dialect.now (option_map kind_of (C.target target.old))
+        (view_of_cell cell.entry))) (C.target target.old) }
+    ensures kept { result ≡ false → C.target target.new ≡ C.target target.old }
+{
+    if quote_fault(dialect.has_quotes, true, cell).is_some() {
+        return false;
+    }
+    let held = content(cell, dialect.has_quotes, dialect.allows_blanks);
+    if target.may_miss() {
+        if held.text == dialect.missing {
+            target.put_missing(row);
+            return true;
+        }
+    }
+    had_at_once(target, row, held)
+}
+
+// Reads a cell of a column whose code says that it has texts, or numbers that are had at once, and tells whether it did.
+#[inline(always)]
+pub(crate) fn read_known<C: TableColumn>(
+    target: &mut C,
+    code: u8,
+    row: usize,
+    cell: Cell<'_>,
+    dialect: &Dialect<'_>,
+) -> bool
+    requires code { IsCodeIn dialect.now code (C.target target.old) }
+    requires usable { IsUsable (row + 1) (C.target target.old) }
+    requires front { cell.text.now ≡ take (length cell.text.now) cell.ahead.now }
+    requires fits { cell.start + length cell.text.now < 2 ^ 64 }
+    ensures fault { IsTrue result → fault_in (answer_as dialect.now
+        (option_map kind_of (C.target target.old)) (view_of_cell cell.entry)) ≡ None }
+    ensures target { IsTrue result → C.target target.new ≡ option_map (put_read row
+        (answer_as dialect.now (option_map kind_of (C.target target.old))
+        (view_of_cell cell.entry))) (C.target target.old) }
+    ensures kept { result ≡ false → C.target target.new ≡ C.target target.old }
+{
+    if code == TEXTS {
+        return read_text(target, row, cell, dialect);
+    }
+    if code == AT_ONCE {
+        return read_number_at_once(target, row, cell, dialect);
+    }
+    false
+}
