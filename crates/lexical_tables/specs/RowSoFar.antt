@@ -1,12 +1,13 @@
 -- A row of which some cells were read.
-use Rattle.std.specs.Prelude.{◌≡◌, ◌≢◌, ◌+◌, ◌-◌, ◌<◌, ◌≤◌, ℕ, true, List, ◌++◌, length, slice_index, take, drop, Option, Some, None, Result, Ok, Err}
+use Rattle.std.specs.Prelude.{◌≡◌, ◌≢◌, ◌==◌, ◌&&◌, ◌+◌, ◌-◌, ◌/◌, ◌^◌, ◌<◌, ◌≤◌, ℕ, true, List, [], ◌++◌, length, slice_index, take, drop, Option, Some, None, Result, Ok, Err}
 use Rattle.lexical_fields.specs.Columns as columns
 use Rattle.lexical_fields.specs.Fields.{FieldView}
 use Rattle.lexical_tables.specs.ByColumn.{AreUsable, cell_answers, cells_left, cells_of, column_count, kinds_of, put_row, row_answers, row_fault, row_values, separator_of}
 use Rattle.lexical_tables.specs.Cells.{Kind}
+use Rattle.lexical_tables.specs.Ends.{AreEnds}
 use Rattle.lexical_tables.specs.Quotes.{length_outside, quote}
 use Rattle.lexical_tables.specs.Readings.{Value}
-use Rattle.lexical_tables.specs.Rows.{RowView, carriage_return, line_feed, takes_returns}
+use Rattle.lexical_tables.specs.Rows.{RowView, behind_piece, carriage_return, first_row, line_feed, takes_returns}
 use Rattle.lexical_tables.specs.Targets.{TargetView}
 use Rattle.lexical_tables.specs.declared.answers.CellFault.{CellFault}
 use Rattle.lexical_tables.specs.declared.answers.TableError.{TableError}
@@ -69,3 +70,39 @@ pub record IsOnRow (dialect : Dialect) (separator : ℕ) (text left : List ℕ) 
       ≡ (length text - length left) + length_outside dialect.has_quotes line_feed left
   pub behind_separator : 0 < length text - length left
       → slice_index text (length text - length left - 1) ≡ separator
+
+-- Wherever a text stands, some cells of its first row go into targets: those between what was left of it, with so many columns
+-- read, and what is left of it now, with so many.
+abbrev pub GoesOn : Dialect → ℕ → List ℕ → List ℕ → List ℕ → List (Option TargetView)
+    → List (Option TargetView) → ℕ → ℕ → Type 0
+GoesOn dialect index text from left before after first column =
+    (start : ℕ) (kinds : List (Option Kind)) (old : List (Option TargetView))
+    → let row = first_row dialect start text in
+    IsRowPut kinds dialect index row old before first
+    (cells_behind dialect row first (length text - length from))
+    → IsRowPut kinds dialect index row old after column
+    (cells_behind dialect row column (length text - length left))
+
+-- the same up to the row's end: no cell is left
+abbrev pub GoesToEnd : Dialect → ℕ → List ℕ → List ℕ → List (Option TargetView)
+    → List (Option TargetView) → ℕ → ℕ → Type 0
+GoesToEnd dialect index text from before after first column =
+    (start : ℕ) (kinds : List (Option Kind)) (old : List (Option TargetView))
+    → let row = first_row dialect start text in
+    IsRowPut kinds dialect index row old before first
+    (cells_behind dialect row first (length text - length from))
+    → IsRowPut kinds dialect index row old after column []
+
+-- The last cell of a text's first row stands in front of what is left of the text, and the row ends behind it.
+pub record IsLastPart (dialect : Dialect) (separator : ℕ) (text left : List ℕ)
+    (marks size end : ℕ) : Type 0 where
+  pub room : size + 17 ≤ length left
+  pub within : end + 17 ≤ length left
+  pub few : end < 64
+  pub row : (start : ℕ) → record {
+    start = start;
+    text = take (length text - length left + size) text;
+    lacks_return = dialect.has_returns && (slice_index left size == line_feed);
+  } ≡ first_row dialect start text
+  pub line : drop (end + 1) left ≡ behind_piece dialect.layout dialect.has_quotes text
+  pub ends : AreEnds dialect.has_quotes separator (drop (end + 1) left) (marks / 2 ^ end / 2)

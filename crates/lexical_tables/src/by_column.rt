@@ -371,5 +371,8 @@ pub fn read_columns<C: TableColumn>(
         (map C.target targets.old) }
     ensures goes_on { IfOk result (StopsAt dialect.now rows text.now) }
 {
-    read_rows(text, dialect, options, rows, targets)
+    if dialect.has_quotes {
+        return read_rows::<C, true>(text, dialect, options, rows, targets);
+    }
+    read_rows::<C, false>(text, dialect, options, rows, targets)
 }

@@ -16,7 +16,7 @@ use lexical_parse_integer::Options;
 
 // Reads the cell of a column at once, the first bytes of a text, so many, by the column's code, and tells whether it did.
 #[inline(always)]
-pub(crate) fn read_coded_cell<C: TableColumn>(
+pub(crate) fn read_coded_cell<C: TableColumn, const HAS_QUOTES: bool>(
     targets: &mut [C],
     codes: &[u8; CODED],
     column: usize,
@@ -25,6 +25,7 @@ pub(crate) fn read_coded_cell<C: TableColumn>(
     size: usize,
     dialect: &Dialect<'_>,
 ) -> bool
+    requires quotes { dialect.now.has_quotes ≡ HAS_QUOTES }
     requires codes { AreCodes dialect.now codes.now (map C.target targets.old) }
     requires usable { AreUsable (row + 1) (map C.target targets.old) }
     requires room { size + 17 ≤ length ahead.now }
@@ -42,7 +43,7 @@ pub(crate) fn read_coded_cell<C: TableColumn>(
     if column >= targets.len() {
         return false;
     }
-    read_coded(
+    read_coded::<C, HAS_QUOTES>(
         &mut targets[column],
         codes[column],
         row,

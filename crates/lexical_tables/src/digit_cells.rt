@@ -83,7 +83,7 @@ fn put_found<C: TableColumn>(
 // Reads a cell at once, the first bytes of a text, so many, where its column isn't read, or it is digits alone, behind a minus
 // or within quotes, and tells whether it did.
 #[inline(always)]
-pub(crate) fn read_coded<C: TableColumn>(
+pub(crate) fn read_coded<C: TableColumn, const HAS_QUOTES: bool>(
     target: &mut C,
     code: u8,
     row: usize,
@@ -91,6 +91,7 @@ pub(crate) fn read_coded<C: TableColumn>(
     size: usize,
     dialect: &Dialect<'_>,
 ) -> bool
+    requires quotes { dialect.now.has_quotes ≡ HAS_QUOTES }
     requires code { IsCodeIn dialect.now code (C.target target.old) }
     requires usable { IsUsable (row + 1) (C.target target.old) }
     requires room { size + 17 ≤ length ahead.now }
@@ -103,9 +104,9 @@ pub(crate) fn read_coded<C: TableColumn>(
     ensures kept { result ≡ false → C.target target.new ≡ C.target target.old }
 {
     if code < U8 {
-        return code == NOT_READ && !dialect.has_quotes;
+        return code == NOT_READ && !HAS_QUOTES;
     }
-    let (held, count) = within_quotes(ahead, size, dialect.has_quotes);
+    let (held, count) = within_quotes(ahead, size, HAS_QUOTES);
     put_found(target, code, row, held, count, number_of_front(held, count))
 }
 

@@ -1,6 +1,6 @@
 //! The next cell of a row, as marks find it.
 
-ghost use Rattle.std.specs.Prelude.{◌≡◌, ◌≢◌, ◌==◌, ◌&&◌, ◌+◌, ◌-◌, ◌<◌, ◌≤◌, ℕ, [], ◌∷◌, false, if◌then◌else◌, length, slice_index, take, true};
+ghost use Rattle.std.specs.Prelude.{◌≡◌, ◌≢◌, ◌==◌, ◌&&◌, ◌+◌, ◌-◌, ◌/◌, ◌^◌, ◌<◌, ◌≤◌, ℕ, [], ◌∷◌, false, if◌then◌else◌, drop, length, slice_index, take, true};
 ghost use Rattle.lexical_tables.specs.Ends.{AreEnds};
 ghost use Rattle.lexical_tables.specs.RowSoFar.{IsMarked, IsOnRow, cells_behind};
 ghost use Rattle.lexical_tables.specs.Rows.{behind_piece, carriage_return, first_row, line_feed};
@@ -15,12 +15,26 @@ pub(crate) struct Left<'a> {
     pub marks: u64,
 }
 
-// A cell: how many bytes it has, what is left of the text behind what ends it, and whether it is its row's last.
+// A cell: how many bytes it has, the place of what ends it, and whether it is its row's last.
 #[derive(Copy, Clone)]
-pub(crate) struct Part<'a> {
+pub(crate) struct Part {
     pub size: usize,
-    pub behind: Left<'a>,
+    pub end: usize,
     pub is_last: bool,
+}
+
+// What is left of a text behind a cell that ends at a place.
+#[inline(always)]
+pub(crate) fn behind_part(left: Left<'_>, end: usize) -> Left<'_>
+    requires within { end < length left.text.now }
+    requires few { end < 64 }
+    ensures text { result.text.now ≡ drop (end + 1) left.entry.text.now }
+    ensures marks { result.marks ≡ left.entry.marks / 2 ^ end / 2 }
+{
+    Left {
+        text: &left.text[end + 1..],
+        marks: behind_end(left.marks, end),
+    }
 }
 
 // How many bytes a row's last cell has that ends at a place: a return in front of it is none of them, if one may stand there.
@@ -57,18 +71,20 @@ pub(crate) fn lacks_return(left: &[u8], size: usize, has_returns: bool) -> bool
 
 // The next cell of the first row of a text, of which this is left.
 #[inline(always)]
-pub(crate) fn next_part<'a>(
+pub(crate) fn next_part(
     text: &[u8],
-    left: &'a [u8],
+    left: &[u8],
     marks: u64,
     separator: u8,
     dialect: &Dialect<'_>,
-) -> Part<'a>
+) -> Part
     requires some { marks ≢ 0 }
     requires marks { AreEnds dialect.now.has_quotes separator left.now marks }
     requires here { IsOnRow dialect.now separator text.now left.now }
     requires marked { IsMarked dialect.now separator }
     ensures room { result.size + 17 ≤ length left.now }
+    ensures within { result.end + 17 ≤ length left.now }
+    ensures few { result.end < 64 }
     ensures cells { (start column : ℕ) → cells_behind dialect.now
         (first_row dialect.now start text.now) column (length text.now - length left.now)
         ≡ record {
@@ -77,36 +93,31 @@ pub(crate) fn next_part<'a>(
         }
         ∷ (if result.is_last then []
         else cells_behind dialect.now (first_row dialect.now start text.now) (column + 1)
-        (length text.now - length result.behind.text.now)) }
+        (length text.now - length (drop (result.end + 1) left.now))) }
     ensures goes { result.is_last ≡ false
-        → IsOnRow dialect.now separator text.now result.behind.text.now }
+        → IsOnRow dialect.now separator text.now (drop (result.end + 1) left.now) }
     ensures row { result.is_last ≡ true → (start : ℕ) → record {
       start = start;
       text = take (length text.now - length left.now + result.size) text.now;
       lacks_return = dialect.now.has_returns && (slice_index left.now result.size == line_feed);
     } ≡ first_row dialect.now start text.now }
-    ensures line { result.is_last ≡ true → result.behind.text.now
+    ensures line { result.is_last ≡ true → drop (result.end + 1) left.now
         ≡ behind_piece dialect.now.layout dialect.now.has_quotes text.now }
-    ensures marks { AreEnds dialect.now.has_quotes separator result.behind.text.now
-        result.behind.marks }
-    ensures shorter { length result.behind.text.now < length left.now }
+    ensures marks { AreEnds dialect.now.has_quotes separator (drop (result.end + 1) left.now)
+        (marks / 2 ^ result.end / 2) }
 {
     let end = first_end(left, marks, separator, dialect.has_quotes);
-    let behind = Left {
-        text: &left[end + 1..],
-        marks: behind_end(marks, end),
-    };
     if left[end] != b'\n' {
         return Part {
             size: end,
-            behind,
+            end,
             is_last: false,
         };
     }
     let size = last_size(left, end, dialect.takes_returns());
     Part {
         size,
-        behind,
+        end,
         is_last: true,
     }
 }

@@ -1,11 +1,11 @@
 //! Rows whose cells are found in one pass, and whose numbers are mostly had at once.
 
 ghost use Rattle.std.specs.Prelude.{◌≡◌, ◌≢◌, ◌==◌, ◌+◌, ◌-◌, ◌<◌, ◌≤◌, ◌^◌, ◌&&◌, ℕ, IfOk, IfSome, IsTrue, None, Some, drop, false, length, map, not, slice_index, take, true};
-ghost use Rattle.lexical_tables.specs.ByColumn.{AreUsable, StopsAt, answer_at, column_count, columns_answer, columns_put, fault_in, kinds_of, put_read_at, put_row, row_fault, row_values};
+ghost use Rattle.lexical_tables.specs.ByColumn.{AreUsable, StopsAt, answer_at, column_count, columns_answer, columns_put, end_fault, fault_in, kinds_of, put_read_at, put_row, row_fault, row_values};
 ghost use Rattle.lexical_tables.specs.Codes.{AreCodes};
 ghost use Rattle.lexical_tables.specs.Ends.{AreEnds, AreEndsIf};
 ghost use Rattle.lexical_tables.specs.Quotes.{quote};
-ghost use Rattle.lexical_tables.specs.RowSoFar.{IsMarked};
+ghost use Rattle.lexical_tables.specs.RowSoFar.{GoesOn, GoesToEnd, IsLastPart, IsMarked, IsOnRow};
 ghost use Rattle.lexical_tables.specs.Rows.{FirstCounts, behind_piece, carriage_return, first_row, rows_from};
 
 use crate::answers::{CellFault, Table, TableError};
@@ -15,7 +15,7 @@ use crate::coded_cells::{read_coded_cell, read_left_cell};
 use crate::codes::{CODED, UNKNOWN, put_codes};
 use crate::dialect::{Dialect, Layout};
 use crate::ends::{LEAST_MARKED, next_ends};
-use crate::next_part::{Left, lacks_return, next_part};
+use crate::next_part::{Left, Part, behind_part, lacks_return, next_part};
 use crate::rows::{Row, without_empty_rows};
 use crate::targets::TableColumn;
 use lexical_parse_integer::Options;
@@ -39,11 +39,142 @@ pub(crate) fn marked_separator(text: &[u8], dialect: &Dialect<'_>) -> Option<u8>
     Some(separator)
 }
 
+// How far a row was read: what is left of its text, behind so many columns, and the part that is there first. If that is the row's
+// last, it was read too, and is counted.
+#[derive(Copy, Clone)]
+struct ReadTo<'a> {
+    left: Left<'a>,
+    column: usize,
+    part: Part,
+}
+
+// Nothing is known of what is left of a row, behind so many columns.
+#[inline(always)]
+fn read_to(left: Left<'_>, column: usize) -> ReadTo<'_>
+    ensures { result ≡ record {
+      left = left.entry;
+      column = column;
+      part = record { size = 0; end = 0; is_last = false };
+    } }
+{
+    let part = Part {
+        size: 0,
+        end: 0,
+        is_last: false,
+    };
+    ReadTo { left, column, part }
+}
+
+// Reads cells of a row at once, by the codes of their columns, from what is left of it on, as long as marks find them and they are
+// had. No call stands in the loop, so that all it needs stays in registers.
+#[inline(always)]
+fn read_cells_at_once<'a, C: TableColumn, const HAS_QUOTES: bool>(
+    text: &[u8],
+    from: Left<'a>,
+    first: usize,
+    index: usize,
+    columns: usize,
+    separator: u8,
+    codes: &[u8; CODED],
+    dialect: &Dialect<'_>,
+    targets: &mut [C],
+) -> ReadTo<'a>
+    requires quotes { dialect.now.has_quotes ≡ HAS_QUOTES }
+    requires marks { AreEnds dialect.now.has_quotes separator from.text.now from.marks }
+    requires here { IsOnRow dialect.now separator text.now from.text.now }
+    requires columns { columns ≡ column_count dialect.now.layout }
+    requires marked { IsMarked dialect.now separator }
+    requires codes { AreCodes dialect.now codes.now (map C.target targets.old) }
+    requires usable { AreUsable (index + 1) (map C.target targets.old) }
+    ensures put { result.part.is_last ≡ false
+        → GoesOn dialect.now index text.now from.entry.text.now result.left.text.now
+        (map C.target targets.old) (map C.target targets.new) first result.column }
+    ensures done { result.part.is_last ≡ true
+        → GoesToEnd dialect.now index text.now from.entry.text.now (map C.target targets.old)
+        (map C.target targets.new) first result.column }
+    ensures here { IsOnRow dialect.now separator text.now result.left.text.now }
+    ensures marks { AreEnds dialect.now.has_quotes separator result.left.text.now
+        result.left.marks }
+    ensures codes { AreCodes dialect.now codes.now (map C.target targets.new) }
+    ensures usable { AreUsable (index + 1) (map C.target targets.new) }
+    ensures part { result.part.is_last ≡ true → IsLastPart dialect.now separator text.now
+        result.left.text.now result.left.marks result.part.size result.part.end }
+    ensures counted { first ≤ result.column }
+    ensures few { first ≤ columns → result.column ≤ columns }
+{
+    let mut left = from;
+    let mut column = first;
+    let coded = columns.min(CODED).min(targets.len());
+    while column < coded {
+        let marks = next_ends(left.text, left.marks, separator, HAS_QUOTES);
+        left = Left {
+            text: left.text,
+            marks,
+        };
+        if marks == 0 {
+            return read_to(left, column);
+        }
+        let part = next_part(text, left.text, marks, separator, dialect);
+        if !read_coded_cell::<C, HAS_QUOTES>(
+            targets, codes, column, index, left.text, part.size, dialect,
+        ) {
+            return read_to(left, column);
+        }
+        column += 1;
+        if part.is_last {
+            return ReadTo { left, column, part };
+        }
+        left = behind_part(left, part.end);
+    }
+    read_to(left, column)
+}
+
+// Tells what is wrong with the end of a row whose last cell was read: what is left of the text behind the row.
+#[inline(always)]
+fn end_row<'a>(
+    start: usize,
+    text: &[u8],
+    read: ReadTo<'a>,
+    index: usize,
+    columns: usize,
+    separator: u8,
+    dialect: &Dialect<'_>,
+    wrong: &mut Option<TableError>,
+) -> Left<'a>
+    requires fine { wrong.old ≡ None }
+    requires columns { columns ≡ column_count dialect.now.layout }
+    requires few { read.column ≤ columns }
+    requires within { length read.left.text.now ≤ length text.now }
+    requires part { IsLastPart dialect.now separator text.now read.left.text.now read.left.marks
+        read.part.size read.part.end }
+    requires fits { start + length text.now < 2 ^ 64 }
+    ensures fault { wrong.new ≡ end_fault columns index (first_row dialect.now start text.now)
+        read.entry.column None }
+    ensures behind { result.text.now
+        ≡ behind_piece dialect.now.layout dialect.now.has_quotes text.now }
+    ensures shorter { length result.text.now < length read.entry.left.text.now }
+    ensures marks { AreEnds dialect.now.has_quotes separator result.text.now result.marks }
+{
+    let left = read.left.text;
+    let behind = behind_part(read.left, read.part.end);
+    let lacks_return = lacks_return(left, read.part.size, dialect.has_returns);
+    if read.column == columns && !lacks_return {
+        return behind;
+    }
+    let row = Row {
+        start,
+        text: &text[..text.len() - left.len() + read.part.size],
+        lacks_return,
+    };
+    put_end_fault(&row, index, columns, read.column, None, wrong);
+    behind
+}
+
 // The numbers of the first row of a text go to its place in the targets, up to the row's fault, which is told, where one pass of
 // marks finds its cells: what is left of the text behind it, where nothing is wrong. An answer that may be a fault would clear
 // its memory for each row.
 #[inline(always)]
-fn read_marked_row<'a, C: TableColumn>(
+fn read_marked_row<'a, C: TableColumn, const HAS_QUOTES: bool>(
     start: usize,
     text: Left<'a>,
     index: usize,
@@ -55,6 +186,7 @@ fn read_marked_row<'a, C: TableColumn>(
     targets: &mut [C],
     wrong: &mut Option<TableError>,
 ) -> Left<'a>
+    requires quotes { dialect.now.has_quotes ≡ HAS_QUOTES }
     requires fine { wrong.old ≡ None }
     requires some { 0 < length text.text.now }
     requires marks { AreEnds dialect.now.has_quotes separator text.text.now text.marks }
@@ -75,55 +207,78 @@ fn read_marked_row<'a, C: TableColumn>(
 {
     let mut left = text;
     let mut column = 0;
-    while column < columns {
-        let marks = next_ends(left.text, left.marks, separator, dialect.has_quotes);
-        if marks == 0 {
-            let passed = text.text.len() - left.text.len();
-            let behind = read_rest(
-                start, text.text, passed, column, index, dialect, options, targets, wrong,
+    loop {
+        let read = read_cells_at_once::<C, HAS_QUOTES>(
+            text.text, left, column, index, columns, separator, codes, dialect, targets,
+        );
+        if read.part.is_last {
+            return end_row(
+                start, text.text, read, index, columns, separator, dialect, wrong,
             );
-            return Left {
-                text: behind,
-                marks: 0,
-            };
         }
-        let part = next_part(text.text, left.text, marks, separator, dialect);
-        if !read_coded_cell(targets, codes, column, index, left.text, part.size, dialect) {
-            let place = start + (text.text.len() - left.text.len());
-            if !read_left_cell(
-                targets, codes, column, index, place, left.text, part.size, dialect, options, wrong,
-            ) {
-                return part.behind;
-            }
+        let passed = text.text.len() - read.left.text.len();
+        if read.column == columns {
+            *wrong = Some(TableError {
+                row: index,
+                column: read.column,
+                fault: CellFault::TooManyCells(start + passed),
+            });
+            return read.left;
         }
-        column += 1;
-        if part.is_last {
-            let lacks_return = lacks_return(left.text, part.size, dialect.has_returns);
-            if column == columns && !lacks_return {
-                return part.behind;
-            }
-            let row = Row {
+        if read.left.marks == 0 {
+            let text = read_rest(
                 start,
-                text: &text.text[..text.text.len() - left.text.len() + part.size],
-                lacks_return,
-            };
-            put_end_fault(&row, index, columns, column, None, wrong);
-            return part.behind;
+                text.text,
+                passed,
+                read.column,
+                index,
+                dialect,
+                options,
+                targets,
+                wrong,
+            );
+            return Left { text, marks: 0 };
         }
-        left = part.behind;
+        let part = next_part(
+            text.text,
+            read.left.text,
+            read.left.marks,
+            separator,
+            dialect,
+        );
+        if !read_left_cell(
+            targets,
+            codes,
+            read.column,
+            index,
+            start + passed,
+            read.left.text,
+            part.size,
+            dialect,
+            options,
+            wrong,
+        ) {
+            return read.left;
+        }
+        column = read.column + 1;
+        if part.is_last {
+            let read = ReadTo {
+                left: read.left,
+                column,
+                part,
+            };
+            return end_row(
+                start, text.text, read, index, columns, separator, dialect, wrong,
+            );
+        }
+        left = behind_part(read.left, part.end);
     }
-    *wrong = Some(TableError {
-        row: index,
-        column,
-        fault: CellFault::TooManyCells(start + (text.text.len() - left.text.len())),
-    });
-    left
 }
 
 // The numbers of the first row of a text go to its place in the targets, up to the row's fault, which is told: what is left of
 // the text behind it, where nothing is wrong.
 #[inline(always)]
-pub(crate) fn read_row<'a, C: TableColumn>(
+pub(crate) fn read_row<'a, C: TableColumn, const HAS_QUOTES: bool>(
     start: usize,
     text: Left<'a>,
     index: usize,
@@ -135,6 +290,7 @@ pub(crate) fn read_row<'a, C: TableColumn>(
     targets: &mut [C],
     wrong: &mut Option<TableError>,
 ) -> Left<'a>
+    requires quotes { dialect.now.has_quotes ≡ HAS_QUOTES }
     requires fine { wrong.old ≡ None }
     requires some { 0 < length text.text.now }
     requires marks { AreEndsIf marked dialect.now.has_quotes text.text.now text.marks }
@@ -154,7 +310,7 @@ pub(crate) fn read_row<'a, C: TableColumn>(
     ensures marks { AreEndsIf marked dialect.now.has_quotes result.text.now result.marks }
 {
     if let Some(separator) = marked {
-        return read_marked_row(
+        return read_marked_row::<C, HAS_QUOTES>(
             start, text, index, columns, separator, codes, dialect, options, targets, wrong,
         );
     }
@@ -208,15 +364,16 @@ pub(crate) fn ask_codes<C: TableColumn>(
     put_codes(dialect, targets, codes);
 }
 
-// `read_columns`, out of line: docs/DECISIONS.md, code.
+// `read_columns`, out of line, once for tables with quotes and once for others: docs/DECISIONS.md, code.
 #[inline(never)]
-pub(crate) fn read_rows<C: TableColumn>(
+pub(crate) fn read_rows<C: TableColumn, const HAS_QUOTES: bool>(
     text: &[u8],
     dialect: &Dialect<'_>,
     options: &Options,
     rows: usize,
     targets: &mut [C],
 ) -> Result<Table, TableError>
+    requires quotes { dialect.now.has_quotes ≡ HAS_QUOTES }
     requires usable { AreUsable rows (map C.target targets.old) }
     ensures answer { result ≡ columns_answer (kinds_of (map C.target targets.old)) dialect.now rows
         text.now }
@@ -233,7 +390,7 @@ pub(crate) fn read_rows<C: TableColumn>(
     let mut wrong = None;
     while count < rows && !left.text.is_empty() {
         let start = text.len() - left.text.len();
-        let behind = read_row(
+        let behind = read_row::<C, HAS_QUOTES>(
             start, left, count, columns, marked, &codes, dialect, options, targets, &mut wrong,
         );
         if let Some(error) = wrong {

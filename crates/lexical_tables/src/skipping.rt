@@ -44,7 +44,7 @@ fn bad_row(error: TableError, bad_count: usize, start: usize, stop: usize) -> Ba
 // The numbers of the first row of a text go to its place in the targets, up to the row's fault: what is left of the text
 // behind it, or the fault.
 #[inline(always)]
-fn read_row<'a, C: TableColumn>(
+fn read_row<'a, C: TableColumn, const HAS_QUOTES: bool>(
     start: usize,
     text: Left<'a>,
     index: usize,
@@ -55,6 +55,7 @@ fn read_row<'a, C: TableColumn>(
     options: &Options,
     targets: &mut [C],
 ) -> Result<Left<'a>, TableError>
+    requires quotes { dialect.now.has_quotes ≡ HAS_QUOTES }
     requires some { 0 < length text.text.now }
     requires marks { AreEndsIf marked dialect.now.has_quotes text.text.now text.marks }
     requires columns { columns ≡ column_count dialect.now.layout }
@@ -74,7 +75,7 @@ fn read_row<'a, C: TableColumn>(
         AreEndsIf marked dialect.now.has_quotes left.text.now left.marks) }
 {
     let mut wrong = None;
-    let left = pass::read_row(
+    let left = pass::read_row::<C, HAS_QUOTES>(
         start, text, index, columns, marked, codes, dialect, options, targets, &mut wrong,
     );
     match wrong {
@@ -115,25 +116,9 @@ fn pass_bad_row<'a, B: KeptRow>(
     behind
 }
 
-/// Reads a table's columns into slices of their own, as [`read_columns`](crate::read_columns) does, and skips the rows
-/// at fault.
-///
-/// The right rows are stored one behind another, all of them and no other, up to so many as are asked for. A row with
-/// too few or too many cells is at fault as any other. What is known of each bad row is kept in `bad`, in their order,
-/// up to its room; all else there is as it was, and `bad_rows` counts all of them.
-///
-/// The call stops behind the last right row that it is asked for, or else at the text's end: so no bad row that follows
-/// that right one is read. A call whose text begins at `stop` goes on with the next row, and counts rows and places
-/// from there.
-///
-/// A bad row is read up to its fault, into the place of the next right one. So in each slice the place behind the last
-/// right row, and its bit, may have changed, if fewer rows are there than were asked for. All else is as it was.
-///
-/// With commas, two columns of `u8` and room for three rows, `1,2\n3,x\n5,6\n` puts 1 and 5, and 2 and 6. The answer
-/// is two rows and one bad row, stopping at 12; `bad` has that of number 1, with the fault of its column 1 at 6, from 4
-/// to 8.
+// `read_columns_skipping`, out of line, once for tables with quotes and once for others: docs/DECISIONS.md, code.
 #[inline(never)]
-pub fn read_columns_skipping<C: TableColumn, B: KeptRow>(
+fn skip_rows<C: TableColumn, B: KeptRow, const HAS_QUOTES: bool>(
     text: &[u8],
     dialect: &Dialect<'_>,
     options: &Options,
@@ -141,6 +126,7 @@ pub fn read_columns_skipping<C: TableColumn, B: KeptRow>(
     targets: &mut [C],
     bad: &mut [B],
 ) -> Skipped
+    requires quotes { dialect.now.has_quotes ≡ HAS_QUOTES }
     requires usable { AreUsable rows (map C.target targets.old) }
     ensures answer { result ≡ skipping_answer (kinds_of (map C.target targets.old)) dialect.now
         rows text.now }
@@ -161,7 +147,7 @@ pub fn read_columns_skipping<C: TableColumn, B: KeptRow>(
     let mut bad_count = 0;
     while count < rows && !left.text.is_empty() {
         let start = text.len() - left.text.len();
-        match read_row(
+        match read_row::<C, HAS_QUOTES>(
             start, left, count, columns, marked, &codes, dialect, options, targets,
         ) {
             Ok(behind) => {
@@ -182,6 +168,48 @@ pub fn read_columns_skipping<C: TableColumn, B: KeptRow>(
         bad_rows: bad_count,
         stop: text.len() - left.text.len(),
     }
+}
+
+/// Reads a table's columns into slices of their own, as [`read_columns`](crate::read_columns) does, and skips the rows
+/// at fault.
+///
+/// The right rows are stored one behind another, all of them and no other, up to so many as are asked for. A row with
+/// too few or too many cells is at fault as any other. What is known of each bad row is kept in `bad`, in their order,
+/// up to its room; all else there is as it was, and `bad_rows` counts all of them.
+///
+/// The call stops behind the last right row that it is asked for, or else at the text's end: so no bad row that follows
+/// that right one is read. A call whose text begins at `stop` goes on with the next row, and counts rows and places
+/// from there.
+///
+/// A bad row is read up to its fault, into the place of the next right one. So in each slice the place behind the last
+/// right row, and its bit, may have changed, if fewer rows are there than were asked for. All else is as it was.
+///
+/// With commas, two columns of `u8` and room for three rows, `1,2\n3,x\n5,6\n` puts 1 and 5, and 2 and 6. The answer
+/// is two rows and one bad row, stopping at 12; `bad` has that of number 1, with the fault of its column 1 at 6, from 4
+/// to 8.
+pub fn read_columns_skipping<C: TableColumn, B: KeptRow>(
+    text: &[u8],
+    dialect: &Dialect<'_>,
+    options: &Options,
+    rows: usize,
+    targets: &mut [C],
+    bad: &mut [B],
+) -> Skipped
+    requires usable { AreUsable rows (map C.target targets.old) }
+    ensures answer { result ≡ skipping_answer (kinds_of (map C.target targets.old)) dialect.now
+        rows text.now }
+    ensures targets { map C.target targets.new ≡ skipping_put dialect.now rows text.now
+        (map C.target targets.old) }
+    ensures bad { bad.new ≡ put_in_front (map B.kept (skipped_rows
+        (kinds_of (map C.target targets.old)) dialect.now rows text.now)) bad.old }
+    ensures goes_on { SkipsTo dialect.now rows text.now result }
+    ensures right_rows { HoldRightRows dialect.now rows text.now (map C.target targets.old)
+        (map C.target targets.new) }
+{
+    if dialect.has_quotes {
+        return skip_rows::<C, B, true>(text, dialect, options, rows, targets, bad);
+    }
+    skip_rows::<C, B, false>(text, dialect, options, rows, targets, bad)
 }
 
 /// Reads the columns in the whole rows of a part of a text, and skips the rows at fault, as

@@ -1,22 +1,27 @@
+use Rattle.lexical_tables.specs.Codes.{AreQuotesRound}
 use Rattle.lexical_tables.proofs.CodedCells.{found_put}
 use Rattle.lexical_tables.proofs.digit_cells.read_coded.Goals as goal
-use Rattle.std.proofs.Common.{◌≤◌, arith}
+use Rattle.std.proofs.Common.{◌-◌, ◌≤◌, arith, length, subst, sym, take}
 use Rattle.std.proofs.lemmas.Bool.Decides.{nat_tests}
 
 pub returns-clause-fault : goal.returns-clause-fault
 returns-clause-fault g c = λ did start.
     let read : 8 ≤ c.args.code = grind (arith, nat_tests) in
     let held = c.within_quotes-count.ensures in
+    let round = subst (λ q. AreQuotesRound q (take c.args.size c.args.ahead.now)
+    (length c.args.ahead.now - length c.within_quotes-count.result.0.now)) (sym c.requires.quotes) held.round in
     (found_put start c.args.size c.args.ahead.now c.args.dialect.now c.args.code c.args.row
     (g.C.TableColumn.target c.args.target.now) (g.C.TableColumn.target c.put_found.new.target)
     c.within_quotes-count.result.0.now c.within_quotes-count.result.1 c.requires.code read c.requires.usable c.requires.room
-    held.round held.tail held.size (c.put_found.ensures.put did)).fault
+    round held.tail held.size (c.put_found.ensures.put did)).fault
 
 pub returns-clause-target : goal.returns-clause-target
 returns-clause-target g c = λ did start.
     let read : 8 ≤ c.args.code = grind (arith, nat_tests) in
     let held = c.within_quotes-count.ensures in
+    let round = subst (λ q. AreQuotesRound q (take c.args.size c.args.ahead.now)
+    (length c.args.ahead.now - length c.within_quotes-count.result.0.now)) (sym c.requires.quotes) held.round in
     (found_put start c.args.size c.args.ahead.now c.args.dialect.now c.args.code c.args.row
     (g.C.TableColumn.target c.args.target.now) (g.C.TableColumn.target c.put_found.new.target)
     c.within_quotes-count.result.0.now c.within_quotes-count.result.1 c.requires.code read c.requires.usable c.requires.room
-    held.round held.tail held.size (c.put_found.ensures.put did)).target
+    round held.tail held.size (c.put_found.ensures.put did)).target

@@ -16,10 +16,8 @@ returns-then-left-end-ne10-clause-cells c = λ start column.
     let r = c.first_end-end.result in
     let other : get_or left r 0 ≢ line_feed = grind (arith, nat_tests) in
     let found = c.first_end-end.ensures in
-    let cell : FieldView = record { start = start + (length text - length left); text = take r left } in
     cells_go d s c.requires.marked start text left c.requires.here r found.room (found.cell other) (found.parts other)
     (found.before other) column
-    ∙ ap (λ l. cell ∷ cells_behind d (first_row d start text) (column + 1) (length text - length l)) (sym (take_rest left (r + 1)))
 
 pub returns-clause-cells : goal.returns-clause-cells
 returns-clause-cells c = λ start column.

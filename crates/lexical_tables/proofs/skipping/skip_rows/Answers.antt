@@ -7,8 +7,8 @@ use Rattle.lexical_tables.proofs.CodeSteps.{codes_put_row}
 use Rattle.lexical_tables.proofs.PassSteps.{no_ends_if}
 use Rattle.lexical_tables.proofs.skipped.RowPlaces.{IsBehindRow, row_behind, rows_start}
 use Rattle.lexical_tables.proofs.skipped.Skipping.{bad_goes, right_goes, skipping_ends, skipping_fits, skipping_starts, skipping_usable}
-use Rattle.lexical_tables.proofs.skipping.read_columns_skipping.Goals.{then-loop-count-test+else-not-is_empty, else-loop-count-test}
-use Rattle.lexical_tables.proofs.skipping.read_columns_skipping.Goals as goal
+use Rattle.lexical_tables.proofs.skipping.skip_rows.Goals.{then-loop-count-test+else-not-is_empty, else-loop-count-test}
+use Rattle.lexical_tables.proofs.skipping.skip_rows.Goals as goal
 
 pub ask_codes-requires : goal.ask_codes-requires
 ask_codes-requires g c = record { unknown = λ k low. get_or-replicate 256 k 0 0 low }

@@ -1,0 +1,76 @@
+use Rattle.std.proofs.Common.{◌≡◌, ◌∙◌, ◌+◌, ◌-◌, ◌<◌, ◌≤◌, ◌∷◌, [], ap, arith, cond, drop, length, map, refl, subst, sym, take}
+use Rattle.std.proofs.lemmas.Bool.Decides.{nat_tests}
+use Rattle.lexical_tables.specs.ByColumn.{AreUsable, answer_at, kinds_of}
+use Rattle.lexical_fields.specs.Fields.{FieldView}
+use Rattle.lexical_tables.specs.Codes.{AreCodes}
+use Rattle.lexical_tables.specs.Ends.{AreEnds}
+use Rattle.lexical_tables.specs.RowSoFar.{IsOnRow, cells_behind, count_in}
+use Rattle.lexical_tables.specs.Rows.{first_row}
+use Rattle.lexical_tables.proofs.CodeSteps.{codes_put}
+use Rattle.lexical_tables.proofs.ColumnSteps.{after_cell}
+use Rattle.lexical_tables.proofs.PutSteps.{use_put}
+use Rattle.lexical_tables.proofs.pass.read_cells_at_once.Goals as goal
+
+pub returns-then-part-clause-done : goal.returns-then-part-clause-done
+returns-then-part-clause-done g c = λ last start kinds old put.
+    let d = c.args.dialect.now in
+    let text = c.args.text.now in
+    let left = c.loop-column.left.text.now in
+    let row = first_row d start text in
+    let column = c.loop-column.column in
+    let part = c.next_part-part in
+    let before = map g.C.TableColumn.target c.loop-column.targets in
+    let now = map g.C.TableColumn.target c.read_coded_cell.new.targets in
+    let cell : FieldView = record { start = start + (length text - length left); text = take part.result.size left } in
+    let more : column < count_in d = grind (arith, nat_tests) in
+    let at = part.ensures.cells start column
+    ∙ ap (λ t. cell ∷ cond t [] (cells_behind d row (column + 1) (length text - length (drop (part.result.end + 1) left)))) c.if-part.true in
+    after_cell kinds d c.args.index row old before column _ (c.loop-column.invariant.4 start kinds old put) cell _ at more
+    now (sym (c.if-not-read_coded_cell.ensures.fault refl cell.start)) (c.if-not-read_coded_cell.ensures.targets refl cell.start)
+
+pub returns-then-part-clause-codes : goal.returns-then-part-clause-codes
+returns-then-part-clause-codes g c =
+    let d = c.args.dialect.now in
+    let column = c.loop-column.column in
+    let before = map g.C.TableColumn.target c.loop-column.targets in
+    let cell : FieldView = record { start = 0; text = take c.next_part-part.result.size c.loop-column.left.text.now } in
+    subst (AreCodes d c.args.codes.now) (sym (c.if-not-read_coded_cell.ensures.targets refl 0))
+    (codes_put d c.args.codes.now c.args.index column (answer_at d (kinds_of before) column cell) before c.loop-column.invariant.2)
+
+pub returns-then-part-clause-usable : goal.returns-then-part-clause-usable
+returns-then-part-clause-usable g c =
+    subst (AreUsable (c.args.index + 1)) (sym (c.if-not-read_coded_cell.ensures.targets refl 0))
+    (use_put (c.args.index + 1) c.args.index c.loop-column.column _ (map g.C.TableColumn.target c.loop-column.targets)
+    c.loop-column.invariant.3)
+
+pub loop-column-preserved : goal.loop-column-preserved
+loop-column-preserved g c =
+    let d = c.args.dialect.now in
+    let text = c.args.text.now in
+    let left = c.loop-column.left.text.now in
+    let column = c.loop-column.column in
+    let part = c.next_part-part in
+    let before = map g.C.TableColumn.target c.loop-column.targets in
+    let now = map g.C.TableColumn.target c.read_coded_cell.new.targets in
+    let found = c.if-not-read_coded_cell.ensures in
+    let behind = c.behind_part-left in
+    let first : FieldView = record { start = 0; text = take part.result.size left } in
+    let more : column < count_in d = grind (arith, nat_tests) in (
+      subst (IsOnRow d c.args.separator text) (sym behind.ensures.text) (part.ensures.goes c.if-part.false),
+      subst (λ l. AreEnds d.has_quotes c.args.separator l behind.result.marks) (sym behind.ensures.text)
+          (subst (AreEnds d.has_quotes c.args.separator (drop (part.result.end + 1) left)) (sym behind.ensures.marks) part.ensures.marks),
+      subst (AreCodes d c.args.codes.now) (sym (found.targets refl 0))
+          (codes_put d c.args.codes.now c.args.index column (answer_at d (kinds_of before) column first) before c.loop-column.invariant.2),
+      subst (AreUsable (c.args.index + 1)) (sym (found.targets refl 0))
+          (use_put (c.args.index + 1) c.args.index column _ before c.loop-column.invariant.3),
+      λ start kinds old put.
+          let row = first_row d start text in
+          let cell : FieldView = record { start = start + (length text - length left); text = take part.result.size left } in
+          let at = part.ensures.cells start column
+          ∙ ap (λ t. cell ∷ cond t [] (cells_behind d row (column + 1) (length text - length (drop (part.result.end + 1) left)))) c.if-part.false
+          ∙ ap (λ l. cell ∷ cells_behind d row (column + 1) (length text - length l)) (sym behind.ensures.text) in
+          after_cell kinds d c.args.index row old before column _ (c.loop-column.invariant.4 start kinds old put) cell _ at more
+          now (sym (found.fault refl cell.start)) (found.targets refl cell.start),
+      omega (arith, c.loop-column.invariant.5),
+      λ low. omega (arith, more, c.requires.columns),
+    )
