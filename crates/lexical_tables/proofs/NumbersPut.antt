@@ -1,10 +1,10 @@
 -- Numbers that are put into a column's slice, as the values of the column.
-use Rattle.std.proofs.Common.{◌≡◌, ◌∙◌, ℕ, List, map, set, ℤ, Result, Option, Some, None, Ok, Err, refl, ap, sym}
+use Rattle.std.proofs.Common.{◌≡◌, ◌∙◌, ℕ, List, map, set, ℤ, Result, Option, Ok, Err, refl, ap}
 use Rattle.std.proofs.lemmas.List.{map-set}
 use Rattle.lexical_util.specs.declared.error.Error.{Error}
 use Rattle.lexical_util.specs.Number.{IntegerType}
 use Rattle.lexical_parse_integer.specs.Answer.{view_of}
-use Rattle.lexical_tables.specs.Readings.{Number, Reading, Value}
+use Rattle.lexical_tables.specs.Readings.{Number, Reading}
 use Rattle.lexical_tables.specs.Targets.{Slice, TargetView, error_in, numbers_in, slice_in, type_of, with_number}
 use Rattle.lexical_tables.specs.declared.numbers.Numbers.{Numbers}
 

@@ -1,5 +1,5 @@
 -- Quotes that are in place in a cell that is read are so where it isn't.
-use Rattle.std.proofs.Common.{◌≡◌, ◌∙◌, ℕ, zero, suc, ◌+◌, ◌-◌, ◌<◌, ◌≤◌, ◌==◌, ◌&&◌, ◌||◌, ◌%◌, not, List, [], ◌∷◌, length, take, ℤ, Bool, true, false, cond, count_by, Result, Option, Some, None, Ok, refl, ap, ap₂, sym, arith, inl, inr}
+use Rattle.std.proofs.Common.{◌≡◌, ◌∙◌, ℕ, zero, suc, ◌+◌, ◌-◌, ◌<◌, ◌≤◌, ◌==◌, ◌&&◌, ◌||◌, ◌%◌, not, List, [], ◌∷◌, length, take, Bool, true, false, cond, count_by, Result, Option, Some, None, Ok, refl, ap, ap₂, sym, arith, inl, inr}
 use Rattle.std.specs.Prelude.{nat_lt, option_map, slice_index}
 use Rattle.std.specs.List.{position, position_or_len, prefix_len, range_with_len}
 use Rattle.std.proofs.lemmas.Bool.{cases_lt, eqb-true, le-ltb, lt-ltb}

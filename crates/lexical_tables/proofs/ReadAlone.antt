@@ -1,5 +1,5 @@
 -- A column that is read without the others.
-use Rattle.std.proofs.Common.{◌≡◌, ◌∙◌, ℕ, zero, suc, ◌+◌, ◌<◌, ◌≤◌, List, [], ◌∷◌, length, take, drop, ℤ, Bool, true, false, cond, Option, Some, None, Ok, refl, ap, ap₂, sym, subst, arith, inl, inr}
+use Rattle.std.proofs.Common.{◌≡◌, ◌∙◌, ℕ, zero, suc, ◌+◌, ◌<◌, ◌≤◌, List, [], ◌∷◌, length, take, drop, Bool, true, false, cond, Option, Some, None, Ok, refl, ap, ap₂, sym, subst, arith, inl, inr}
 use Rattle.std.specs.Prelude.{IfOk, is_none, nat_lt, option_map}
 use Rattle.std.specs.List.{slice_get}
 use Rattle.std.proofs.lemmas.Bool.{cases_lt, le-ltb, lt-ltb}

@@ -1,5 +1,5 @@
 -- What one cell of a row stands for.
-use Rattle.std.specs.Prelude.{◌==◌, ◌&&◌, ◌||◌, ◌+◌, ◌-◌, ℕ, Bool, false, true, not, if◌then◌else◌, List, length, take, drop, is_some, nat_lt, option_map, position, slice_index, Option, Some, None, Result, Ok, Err}
+use Rattle.std.specs.Prelude.{◌==◌, ◌&&◌, ◌||◌, ◌+◌, ◌-◌, ℕ, Bool, false, not, if◌then◌else◌, List, length, take, drop, is_some, nat_lt, option_map, position, slice_index, Option, Some, None, Result, Ok, Err}
 use Rattle.std.specs.List.{prefix_len, range_with_len, suffix_len}
 use Rattle.std.specs.Str.{bytes_eq}
 use Rattle.lexical_util.specs.declared.error.Error.{Error}

@@ -1,5 +1,5 @@
 -- What is put at a row's place of targets over what was put there before.
-use Rattle.std.proofs.Common.{◌≡◌, ◌∙◌, ℕ, zero, suc, ◌+◌, ◌-◌, ◌<◌, ◌≤◌, List, [], ◌∷◌, length, set, get_or, ℤ, ◌≢◌, eqb, Bool, true, false, Option, Some, None, ◌⊎◌, refl, ap, ap₂, arith, inl, inr}
+use Rattle.std.proofs.Common.{◌≡◌, ◌∙◌, ℕ, zero, suc, ◌+◌, ◌-◌, ◌<◌, ◌≤◌, List, [], ◌∷◌, length, set, get_or, ◌≢◌, eqb, Bool, true, false, Option, Some, None, ◌⊎◌, refl, ap, ap₂, arith, inl, inr}
 use Rattle.std.specs.Prelude.{◌/◌, ◌%◌, ◌^◌, IfSome, is_some, option_map, unwrap_or}
 use Rattle.std.specs.Int.{bit_not, w8}
 use Rattle.std.specs.Int.Bits.{and_self, and_zero_r, bit_and, bit_or, or_add_and}

@@ -1,5 +1,5 @@
 -- The right rows of a table, and what is put of bad ones.
-use Rattle.std.proofs.Common.{◌≡◌, ◌∙◌, ℕ, zero, suc, ◌+◌, ◌≤◌, List, [], ◌∷◌, length, take, drop, map, cond, ℤ, Bool, true, false, Result, Option, Some, None, Ok, Err, refl, ap, sym, subst, arith, inl, inr}
+use Rattle.std.proofs.Common.{◌≡◌, ◌∙◌, ℕ, zero, suc, ◌+◌, ◌≤◌, List, [], ◌∷◌, length, take, drop, map, cond, Bool, true, false, Result, Option, Some, None, Ok, Err, refl, ap, sym, subst, arith, inl, inr}
 use Rattle.std.specs.Prelude.{is_none, nat_lt, option_map}
 use Rattle.std.proofs.lemmas.Bool.{cases_lt, lt-ltb}
 use Rattle.std.proofs.lemmas.List.{length-take}

@@ -1,4 +1,4 @@
-use Rattle.std.proofs.Common.{◌+◌, ◌<◌, ◌≤◌, ◌∙◌, length, ap, arith, sym, take}
+use Rattle.std.proofs.Common.{◌+◌, ◌<◌, ◌∙◌, length, ap, arith, sym, take}
 use Rattle.std.proofs.lemmas.Bool.Decides.{nat_tests}
 use Rattle.lexical_fields.specs.Fields.{FieldView}
 use Rattle.lexical_tables.specs.ByColumn.{fault_in}

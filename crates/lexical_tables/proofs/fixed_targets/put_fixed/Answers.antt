@@ -1,8 +1,6 @@
-use Rattle.std.proofs.Common.{◌≡◌, ◌∙◌, ◌+◌, ◌<◌, ◌≤◌, Ok, Err, Some, ap, map, subst, arith}
-use Rattle.std.specs.Prelude.{IfErr, IfSome}
+use Rattle.std.proofs.Common.{◌∙◌, Some, ap, map}
 use Rattle.std.proofs.lemmas.List.{map-set}
 use Rattle.lexical_fields.specs.Places.{in_text}
-use Rattle.lexical_fixed.specs.Grammar.{complete_fixed}
 use Rattle.lexical_tables.specs.Targets.{error_in, with_number}
 use Rattle.lexical_tables.proofs.fixed_targets.put_fixed.Goals as goal
 

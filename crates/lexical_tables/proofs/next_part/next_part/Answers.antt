@@ -1,9 +1,6 @@
-use Rattle.std.proofs.Common.{◌∙◌, ◌+◌, ◌-◌, ◌∷◌, ◌≡◌, ◌≢◌, ap, arith, get_or, length, sym, take}
+use Rattle.std.proofs.Common.{◌∙◌, ◌+◌, ◌-◌, ◌≡◌, ◌≢◌, ap, arith, get_or, length, sym, take}
 use Rattle.std.proofs.lemmas.Bool.Decides.{nat_tests}
-use Rattle.std.proofs.lemmas.List.{take_rest}
-use Rattle.lexical_fields.specs.Fields.{FieldView}
-use Rattle.lexical_tables.specs.RowSoFar.{cells_behind}
-use Rattle.lexical_tables.specs.Rows.{first_row, line_feed}
+use Rattle.lexical_tables.specs.Rows.{line_feed}
 use Rattle.lexical_tables.proofs.PassSteps.{cells_end, cells_go, no_return_at, row_is}
 use Rattle.lexical_tables.proofs.next_part.next_part.Goals as goal
 

@@ -1,4 +1,4 @@
-use Rattle.std.proofs.Common.{◌≡◌, ◌∙◌, ◌+◌, ◌-◌, ◌<◌, ◌≤◌, ◌∷◌, [], ap, arith, cond, drop, length, map, refl, subst, sym, take}
+use Rattle.std.proofs.Common.{◌∙◌, ◌+◌, ◌-◌, ◌<◌, ◌∷◌, [], ap, arith, cond, drop, length, map, refl, subst, sym, take}
 use Rattle.std.proofs.lemmas.Bool.Decides.{nat_tests}
 use Rattle.lexical_tables.specs.ByColumn.{AreUsable, answer_at, kinds_of}
 use Rattle.lexical_fields.specs.Fields.{FieldView}

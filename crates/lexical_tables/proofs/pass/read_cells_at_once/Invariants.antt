@@ -1,4 +1,4 @@
-use Rattle.std.proofs.Common.{◌≡◌, ◌-◌, ◌+◌, ◌≤◌, map}
+use Rattle.std.proofs.Common.{◌-◌, ◌+◌, ◌≤◌, map}
 use Rattle.lexical_tables.specs.ByColumn.{AreUsable}
 use Rattle.lexical_tables.specs.Codes.{AreCodes}
 use Rattle.lexical_tables.specs.Ends.{AreEnds}

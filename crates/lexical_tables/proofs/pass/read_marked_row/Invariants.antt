@@ -1,5 +1,5 @@
 use Rattle.std.proofs.Common.{◌≡◌, ◌-◌, ◌≤◌, None, length, map}
-use Rattle.lexical_tables.specs.ByColumn.{AreUsable, kinds_of}
+use Rattle.lexical_tables.specs.ByColumn.{kinds_of}
 use Rattle.lexical_tables.specs.Codes.{AreCodes}
 use Rattle.lexical_tables.specs.Ends.{AreEnds}
 use Rattle.lexical_tables.specs.RowSoFar.{IsOnRow, IsRowPut, cells_behind}

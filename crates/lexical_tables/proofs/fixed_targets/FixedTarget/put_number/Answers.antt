@@ -1,7 +1,6 @@
-use Rattle.std.proofs.Common.{◌∙◌}
 use Rattle.lexical_tables.specs.Readings.{FixedPoints, fixed_answer}
 use Rattle.lexical_tables.specs.Targets.{type_of, view_of_fixed}
-use Rattle.lexical_tables.proofs.NumbersPut.{answer_in, same_error}
+use Rattle.lexical_tables.proofs.NumbersPut.{answer_in}
 use Rattle.lexical_tables.proofs.fixed_targets.FixedTarget.put_number.Goals as goal
 
 pub returns-clause-target : goal.returns-clause-target

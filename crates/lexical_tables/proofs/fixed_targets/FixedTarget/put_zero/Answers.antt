@@ -1,5 +1,4 @@
 use Rattle.std.proofs.Common.{pos}
-use Rattle.std.specs.Prelude.{option_map}
 use Rattle.lexical_tables.specs.Readings.{FixedPoints}
 use Rattle.lexical_tables.specs.Targets.{view_of_fixed}
 use Rattle.lexical_tables.proofs.NumbersPut.{set_in}
