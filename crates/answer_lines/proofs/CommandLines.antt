@@ -3,7 +3,7 @@ use Rattle.std.proofs.Common.{◌≡◌, ℕ, ◌+◌, ◌-◌, ◌≤◌, List,
 use Rattle.std.proofs.lemmas.Bool.{lt-ltb}
 use Rattle.std.proofs.lemmas.List.{take_rest}
 use Rattle.std.specs.Prelude.{option_and_then, option_map}
-use Rattle.answer_lines.specs.Command.{Command, command_in, command_of, parse_complete, parse_in, parse_partial, type_and_text}
+use Rattle.answer_lines.specs.Command.{Command, change, change_named, command_in, command_of, list_tokens, parse_complete, parse_in, parse_partial, type_and_text}
 use Rattle.answer_lines.specs.declared.command.TypeName.{TypeName}
 use Rattle.answer_lines.specs.Gather.{GainsFront, Sends}
 use Rattle.answer_lines.specs.Output.{answer_to, command_answer, command_effect, settings_after}
@@ -51,22 +51,29 @@ behind_letter letter (a ∷ b ∷ rest) long first space asks =
     ap (λ l. command_of (letter ∷ [], l)) (take_rest (a ∷ b ∷ rest) 2) ∙ rw (here, there) (asks rest)
 
 pub complete_in_line : (line : List ℕ) → 2 ≤ length line → get_or line 0 0 ≡ 99 → get_or line 1 0 ≡ 32
-    → command_of (codes "c", take (length line - 2) (drop 2 line)) ≡ command_in line
+    → parse_in parse_complete (take (length line - 2) (drop 2 line)) ≡ command_in line
 complete_in_line line long letter space = behind_letter 99 line long letter space behind_c
 
 pub partial_in_line : (line : List ℕ) → 2 ≤ length line → get_or line 0 0 ≡ 112 → get_or line 1 0 ≡ 32
-    → command_of (codes "p", take (length line - 2) (drop 2 line)) ≡ command_in line
+    → parse_in parse_partial (take (length line - 2) (drop 2 line)) ≡ command_in line
 partial_in_line line long letter space = behind_letter 112 line long letter space behind_p
 
 pub tokens_in_line : (line : List ℕ) → 2 ≤ length line → get_or line 0 0 ≡ 116 → get_or line 1 0 ≡ 32
-    → command_of (codes "t", take (length line - 2) (drop 2 line)) ≡ command_in line
+    → Some (list_tokens (take (length line - 2) (drop 2 line))) ≡ command_in line
 tokens_in_line line long letter space = behind_letter 116 line long letter space behind_t
 
 pub change_in_line : (line : List ℕ) → 2 ≤ length line → get_or line 0 0 ≡ 102 → get_or line 1 0 ≡ 32
-    → command_of (codes "f", take (length line - 2) (drop 2 line)) ≡ command_in line
+    → option_map change (change_named (take (length line - 2) (drop 2 line))) ≡ command_in line
 change_in_line line long letter space = behind_letter 102 line long letter space behind_f
 
 -- ---- the answer to a command is that to its line
+
+pub answer_of_line : (settings : Settings) (line waits between : List ℕ) (command : Option Command)
+    → command ≡ command_in line → waits ≡ between ++ (command_answer settings command ++ 10 ∷ [])
+    → waits ≡ between ++ (answer_to settings line ++ 10 ∷ [])
+unfolding answer_to
+answer_of_line settings line waits between command e w =
+    w ∙ ap (λ asked. between ++ (command_answer settings asked ++ 10 ∷ [])) e
 
 pub sends_answer : (a b : Option (List ℕ)) (settings : Settings) (line waited waits : List ℕ) (command : Option Command)
     → command ≡ command_in line
@@ -90,12 +97,6 @@ pub effect_of_line : (settings after : Settings) (line : List ℕ) (command : Op
     → after ≡ settings_after settings line
 unfolding settings_after
 effect_of_line settings after line command e f = f ∙ ap (command_effect settings) e
-
--- a command that sets nothing
-pub keeps_settings : (a b : Option (List ℕ)) (settings : Settings) (line bytes waits : List ℕ) (command : Option Command)
-    → command ≡ command_in line → settings ≡ command_effect settings command → Sends a b bytes waits
-    → settings ≡ settings_after settings line
-keeps_settings a b settings line bytes waits command e f s = effect_of_line settings settings line command e f
 
 -- a parse sets nothing
 nothing_set : (settings : Settings) (parse : TypeName → List ℕ → Command) (found : Option (TypeName × List ℕ))

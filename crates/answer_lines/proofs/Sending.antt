@@ -1,7 +1,8 @@
 -- Bytes that go out, or come in, by several calls.
 use Rattle.std.proofs.Common.{◌≡◌, ℕ, ◌-◌, List, [], ◌∷◌, ◌++◌, arith, take, drop, length, Option, None, Some, IfSome, refl, subst, ◌∙◌, ap, sym, append_assoc, append-nil}
 use Rattle.std.proofs.lemmas.List.{take_rest, take-append-drop}
-use Rattle.std.specs.Io.KnownBytes.{Appends, Consumes, IsAtEnd, Keeps}
+use Rattle.std.specs.Prelude.{Result, Ok, Err, OnErr, OnOk}
+use Rattle.std.specs.Io.KnownBytes.{Appends, Consumes, Keeps}
 use Rattle.answer_lines.specs.Gather.{GainsFront, Grows, LosesFront, Sends, gains_front, grows, loses_front, sends}
 
 -- what is known of a reader has lost `front`, and the bytes are those from before and `front`
@@ -42,18 +43,19 @@ takes_kept a b c start bytes (takes f p e) k = takes f (Consumes-kept a b c f p 
 pub front_of_taken : (a b : Option (List ℕ)) (start bytes : List ℕ) → Takes a b start bytes → LosesFront a b
 front_of_taken a b start bytes (takes f p e) = loses_front f p
 
--- at the end of the input all of it came in
-pub takes_all : (a b : Option (List ℕ)) (start bytes : List ℕ) → Takes a b start bytes → IsAtEnd b
-    → IfSome a (λ all. bytes ≡ start ++ all)
-takes_all None b start bytes t end = tt
-takes_all (Some u) None start bytes (takes f p e) end = absurd p
-takes_all (Some u) (Some v) start bytes (takes f p e) end =
-    e ∙ ap (λ l. start ++ l) (sym (p ∙ ap (λ l. f ++ l) end ∙ append-nil f))
-
 -- one more piece came in, and wasn't added
 pub takes_lost : (a b c : Option (List ℕ)) (start bytes piece : List ℕ) → Takes a b start bytes
     → Consumes b c piece → LosesFront a c
 takes_lost a b c start bytes piece (takes f p e) q = loses_front (f ++ piece) (Consumes-more a b c f piece p q)
+
+-- what holds is so where a call ended well, and where it failed
+pub on_ok : {T E P : Type 0} (r : Result T E) → P → OnOk r P
+on_ok (Ok value) p = p
+on_ok (Err fault) p = tt
+
+pub on_err : {T E P : Type 0} (r : Result T E) → P → OnErr r P
+on_err (Ok value) p = tt
+on_err (Err fault) p = p
 
 -- ---- what a writer gained
 
@@ -82,10 +84,6 @@ sends_none a bytes = sends [] (Appends-none a) refl
 -- all went out
 pub sends_all : (a b : Option (List ℕ)) (bytes : List ℕ) → Appends a b bytes → Sends a b bytes []
 sends_all a b bytes p = sends bytes p (sym (append-nil bytes))
-
--- the first part went out
-pub sends_first : (a b : Option (List ℕ)) (first bytes : List ℕ) → Appends a b first → Sends a b (first ++ bytes) bytes
-sends_first a b first bytes p = sends first p refl
 
 -- of what was left some more went out
 pub sends_more : (a b c : Option (List ℕ)) (bytes left rest : List ℕ) → Sends a b bytes left
@@ -120,40 +118,24 @@ sends_done a b bytes (x ∷ left) s none = absurd (omega arith)
 pub sends_held : (a : Option (List ℕ)) (bytes left : List ℕ) → left ≡ bytes → Sends a a bytes left
 sends_held a bytes left e = subst (Sends a a bytes) (sym e) (sends_none a bytes)
 
--- nothing went out, and nothing was to
-pub sends_empty : (a : Option (List ℕ)) (waited more : List ℕ) → more ≡ [] → Sends a a (waited ++ more) waited
-sends_empty a waited more none =
-    sends_held a (waited ++ more) waited (sym (ap (λ l. waited ++ l) none ∙ append-nil waited))
+-- ---- more bytes wait
 
--- ---- what waited goes out, and then more bytes
-
--- the bytes wait in the batch that was empty
-pub gathers_waiting : (a : Option (List ℕ)) (empty waits bytes : List ℕ) → empty ≡ []
-    → waits ≡ empty ++ bytes → Sends a a bytes waits
-gathers_waiting a empty waits bytes none e = sends_held a bytes waits (e ∙ ap (λ l. l ++ bytes) none)
-
--- the bytes went out, and the batch is as empty as it was
+-- the batch went out, and is as empty as it was
 pub gathers_sent : (a b : Option (List ℕ)) (empty bytes : List ℕ) → empty ≡ [] → Appends a b bytes
     → Sends a b bytes empty
 gathers_sent a b empty bytes none p = subst (Sends a b bytes) (sym none) (sends_all a b bytes p)
 
--- what waited went out, and then the bytes
-pub gathers_behind : (a b c : Option (List ℕ)) (waited waits bytes : List ℕ) → Appends a b waited
-    → Sends b c bytes waits → Sends a c (waited ++ bytes) waits
-gathers_behind a b c waited waits bytes p s =
-    sends_more a b c (waited ++ bytes) bytes waits (sends_first a b waited bytes p) s
+-- bytes were added behind what was left
+pub gathers_added : (a b : Option (List ℕ)) (waited between waits bytes : List ℕ) → Sends a b waited between
+    → waits ≡ between ++ bytes → Sends a b (waited ++ bytes) waits
+gathers_added a b waited between waits bytes s e =
+    subst (Sends a b (waited ++ bytes)) (sym e) (sends_wider a b waited between bytes s)
 
--- two pieces, one after the other
-pub gathers_more : (a b c : Option (List ℕ)) (waited between waits xs ys : List ℕ)
-    → Sends a b (waited ++ xs) between → Sends b c (between ++ ys) waits
-    → Sends a c (waited ++ (xs ++ ys)) waits
-gathers_more a b c waited between waits xs ys s t =
-    rw (← append_assoc waited xs ys) (sends_more a b c _ _ waits (sends_wider a b (waited ++ xs) between ys s) t)
-
--- the bytes behind what waited are told another way
-pub sends_as : (a b : Option (List ℕ)) (waited waits xs ys : List ℕ) → xs ≡ ys
-    → Sends a b (waited ++ xs) waits → Sends a b (waited ++ ys) waits
-sends_as a b waited waits xs ys e s = subst (λ l. Sends a b (waited ++ l) waits) e s
+-- some went out, and then more of what was left and of more bytes
+pub gathers_then : (a b c : Option (List ℕ)) (waited between waits bytes : List ℕ) → Sends a b waited between
+    → Sends b c (between ++ bytes) waits → Sends a c (waited ++ bytes) waits
+gathers_then a b c waited between waits bytes s t =
+    sends_more a b c _ _ waits (sends_wider a b waited between bytes s) t
 
 -- a piece of what is left goes out, behind what waited
 pub sends_piece : (a b c : Option (List ℕ)) (bytes waited waits piece rest : List ℕ)
@@ -200,31 +182,15 @@ front_piece a b c bytes waited piece rest s (gains_front left t) =
     front_more a b c bytes _ (rw (← append_assoc waited piece rest) at s)
     (gains_front (left ++ rest) (sends_wider b c (waited ++ piece) left rest t))
 
--- the bytes behind what waited are told another way
-pub front_as : (a b : Option (List ℕ)) (waited xs ys : List ℕ) → xs ≡ ys
-    → GainsFront a b (waited ++ xs) → GainsFront a b (waited ++ ys)
-front_as a b waited xs ys e g = subst (λ l. GainsFront a b (waited ++ l)) e g
-
 -- a front of the first bytes
 pub front_wider : (a b : Option (List ℕ)) (bytes more : List ℕ) → GainsFront a b bytes → GainsFront a b (bytes ++ more)
 front_wider a b bytes more (gains_front left s) = gains_front (left ++ more) (sends_wider a b bytes left more s)
 
--- a front of the bytes behind the first, which are all out
-pub front_behind : (a b c : Option (List ℕ)) (first second : List ℕ) → Appends a b first
-    → GainsFront b c second → GainsFront a c (first ++ second)
-front_behind a b c first second p g = front_more a b c (first ++ second) second (sends_first a b first second p) g
-
--- a front of what waited and the first piece
-pub front_first : (a b : Option (List ℕ)) (waited xs ys : List ℕ) → GainsFront a b (waited ++ xs)
-    → GainsFront a b (waited ++ (xs ++ ys))
-front_first a b waited xs ys g = rw (← append_assoc waited xs ys) (front_wider a b (waited ++ xs) ys g)
-
--- a front of what waited then and the second piece
-pub front_second : (a b c : Option (List ℕ)) (waited between xs ys : List ℕ)
-    → Sends a b (waited ++ xs) between → GainsFront b c (between ++ ys)
-    → GainsFront a c (waited ++ (xs ++ ys))
-front_second a b c waited between xs ys s g =
-    rw (← append_assoc waited xs ys) (front_more a b c _ _ (sends_wider a b (waited ++ xs) between ys s) g)
+-- a front of what was left and of more bytes
+pub front_then : (a b c : Option (List ℕ)) (waited between bytes : List ℕ) → Sends a b waited between
+    → GainsFront b c (between ++ bytes) → GainsFront a c (waited ++ bytes)
+front_then a b c waited between bytes s g =
+    front_more a b c _ _ (sends_wider a b waited between bytes s) g
 
 -- then the writer keeps its bytes
 pub front_kept : (a b c : Option (List ℕ)) (bytes : List ℕ) → GainsFront a b bytes → Keeps b c → GainsFront a c bytes

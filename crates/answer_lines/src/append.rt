@@ -1,50 +1,29 @@
-//! Pieces of an answer that are added behind others, in a place of the caller that has room.
+//! Lines of answers, and their pieces, that are added behind others in a place of the caller that has room.
 
-ghost use Rattle.std.specs.Prelude.{◌≡◌, ◌+◌, ◌≤◌, ◌∷◌, [], ◌++◌, Some, codes, length, take};
+ghost use Rattle.std.specs.Prelude.{◌≡◌, ◌+◌, ◌≤◌, ◌∷◌, [], ◌++◌, codes, length, take};
 ghost use Rattle.lexical_util.specs.Ascii.{line_feed};
 ghost use Rattle.answer_lines.specs.Decimal.{signed_text};
-ghost use Rattle.answer_lines.specs.Output.{fault_answer, fault_name, place_text};
+ghost use Rattle.answer_lines.specs.Output.{fault_answer, fault_name, kind_text, place_text, token_text};
+ghost use Rattle.lexical_literals.specs.Tokens.{view_of_token};
 ghost use Rattle.lexical_util.specs.Faults.{place_of};
 
 use crate::decimal::{add_byte, add_decimal, add_number};
+use crate::literals::{Kind, Token};
 use crate::number::Number;
 use lexical_parse_integer::Error;
 
-/// The room that the longest `ok V` and a line feed ask for.
-pub const MOST_OF_VALUE_LINE: usize = 45;
-
-/// The room that the longest `ok V PLACE` and a line feed ask for.
-pub const MOST_OF_FOUND_LINE: usize = 66;
-
-/// Room enough for the longest `err NAME PLACE` and a line feed.
-pub const MOST_OF_FAULT_LINE: usize = 48;
-
-/// Adds `ok V` and a line feed, and answers where they end.
+/// Adds `ok V`, a space and the place where there is one, and a line feed, and answers where they end.
 #[inline(always)]
-pub fn add_value_line(value: &Number, place: &mut [u8], end: usize) -> usize
-    requires room { end + 45 ≤ length place.old }
-    ensures size { length place.new ≡ length place.old }
-    ensures within { result ≤ end + 45 }
-    ensures written { take result place.new
-        ≡ take end place.old ++ (codes "ok " ++ signed_text value.now ++ line_feed ∷ []) }
-{
-    let start = add_ok(place, end);
-    let behind = add_value(value, place, start);
-    add_byte(b'\n', place, behind)
-}
-
-/// Adds `ok V PLACE` and a line feed, and answers where they end.
-#[inline(always)]
-pub fn add_found_line(value: &Number, stop: usize, place: &mut [u8], end: usize) -> usize
+pub fn add_value_line(value: &Number, at: Option<usize>, place: &mut [u8], end: usize) -> usize
     requires room { end + 66 ≤ length place.old }
     ensures size { length place.new ≡ length place.old }
     ensures within { result ≤ end + 66 }
     ensures written { take result place.new ≡ take end place.old
-        ++ (codes "ok " ++ signed_text value.now ++ place_text (Some stop) ++ line_feed ∷ []) }
+        ++ (codes "ok " ++ signed_text value.now ++ place_text at ++ line_feed ∷ []) }
 {
     let start = add_ok(place, end);
     let behind = add_value(value, place, start);
-    let last = add_place(stop, place, behind);
+    let last = add_place(at, place, behind);
     add_byte(b'\n', place, last)
 }
 
@@ -57,10 +36,57 @@ pub fn add_fault_line(fault: Error, place: &mut [u8], end: usize) -> usize
     ensures written { take result place.new
         ≡ take end place.old ++ (fault_answer fault ++ line_feed ∷ []) }
 {
-    let start = add_text(b"err ", place, end);
-    let behind = add_name(fault, place, start);
-    let last = add_place_of(fault, place, behind);
+    let last = add_fault(b"err ", fault, place, end);
     add_byte(b'\n', place, last)
+}
+
+/// Adds what a token is, where it starts and stops, and a line feed, and answers where they end. No line of another
+/// answer asks for so much room.
+#[inline(always)]
+pub fn add_token_line(token: &Token<'_>, place: &mut [u8], end: usize) -> usize
+    requires room { end + 92 ≤ length place.old }
+    ensures size { length place.new ≡ length place.old }
+    ensures within { result ≤ end + 92 }
+    ensures written { take result place.new
+        ≡ take end place.old ++ (token_text (view_of_token token.now) ++ line_feed ∷ []) }
+{
+    let start = add_kind(&token.kind, place, end);
+    let behind = add_place(Some(token.start), place, start);
+    let last = add_place(Some(token.stop), place, behind);
+    add_byte(b'\n', place, last)
+}
+
+// Adds `number V`, `word`, `byte` or `fault NAME PLACE`.
+#[inline(always)]
+fn add_kind(kind: &Kind, place: &mut [u8], end: usize) -> usize
+    requires room { end + 49 ≤ length place.old }
+    ensures size { length place.new ≡ length place.old }
+    ensures within { result ≤ end + 49 }
+    ensures written { take result place.new ≡ take end place.old ++ kind_text kind.now }
+{
+    match kind {
+        Kind::Number(value) => {
+            let start = add_text(b"number ", place, end);
+            add_decimal(*value, place, start)
+        }
+        Kind::Word => add_text(b"word", place, end),
+        Kind::Byte => add_text(b"byte", place, end),
+        Kind::Fault(fault) => add_fault(b"fault ", *fault, place, end),
+    }
+}
+
+// Adds a word, the name of a fault, and a space and its place where it has one.
+#[inline(always)]
+fn add_fault(word: &[u8], fault: Error, place: &mut [u8], end: usize) -> usize
+    requires room { end + length word.now + 43 ≤ length place.old }
+    ensures size { length place.new ≡ length place.old }
+    ensures within { result ≤ end + length word.now + 43 }
+    ensures written { take result place.new ≡ take end place.old
+        ++ (word.now ++ fault_name fault ++ place_text (place_of fault)) }
+{
+    let start = add_text(word, place, end);
+    let behind = add_name(fault, place, start);
+    add_place(fault.index(), place, behind)
 }
 
 // Adds the name of a fault. Each has an arm of its own: so few bytes, of a number that is known, go without a call.
@@ -88,36 +114,26 @@ fn add_name(fault: Error, place: &mut [u8], end: usize) -> usize
     }
 }
 
-// Adds a space and the fault's place, where it has one.
+// Adds a space and a place, where there is one.
 #[inline(always)]
-fn add_place_of(fault: Error, place: &mut [u8], end: usize) -> usize
+fn add_place(at: Option<usize>, place: &mut [u8], end: usize) -> usize
     requires room { end + 21 ≤ length place.old }
     ensures size { length place.new ≡ length place.old }
     ensures within { result ≤ end + 21 }
-    ensures written { take result place.new
-        ≡ take end place.old ++ place_text (place_of fault) }
+    ensures written { take result place.new ≡ take end place.old ++ place_text at }
 {
-    match fault.index() {
-        Some(at) => add_place(at, place, end),
+    match at {
+        Some(at) => {
+            let start = add_byte(b' ', place, end);
+            add_number(at as u64, place, start)
+        }
         None => end,
     }
 }
 
-// Adds a space and a place.
+/// Adds bytes, and answers where they end.
 #[inline(always)]
-fn add_place(at: usize, place: &mut [u8], end: usize) -> usize
-    requires room { end + 21 ≤ length place.old }
-    ensures size { length place.new ≡ length place.old }
-    ensures within { result ≤ end + 21 }
-    ensures written { take result place.new ≡ take end place.old ++ place_text (Some at) }
-{
-    let start = add_byte(b' ', place, end);
-    add_number(at as u64, place, start)
-}
-
-// Adds bytes.
-#[inline(always)]
-fn add_text(text: &[u8], place: &mut [u8], end: usize) -> usize
+pub fn add_text(text: &[u8], place: &mut [u8], end: usize) -> usize
     requires room { end + length text.now ≤ length place.old }
     ensures size { length place.new ≡ length place.old }
     ensures end { result ≡ end + length text.now }
@@ -143,7 +159,7 @@ fn add_value(value: &Number, place: &mut [u8], end: usize) -> usize
     add_decimal(value.magnitude(), place, end)
 }
 
-// Adds `ok` and a space.
+// Adds `ok` and a space, byte by byte: nobody asks then whether text and place overlap.
 #[inline(always)]
 fn add_ok(place: &mut [u8], end: usize) -> usize
     requires room { end + 3 ≤ length place.old }

@@ -1,22 +1,27 @@
-//! Bytes that are gathered before they go out.
+//! Lines that are gathered before they go out.
 
-ghost use Rattle.std.specs.Prelude.{◌≡◌, ◌+◌, ◌≤◌, ℕ, List, [], ◌∷◌, ◌++◌, Some, codes, take, length, OnOk, OnErr, IsOkUnless};
+ghost use Rattle.std.specs.Prelude.{◌≡◌, ◌↔◌, ◌+◌, ◌≤◌, ℕ, List, [], ◌∷◌, ◌++◌, codes, take, length, IsTrue, OnOk, OnErr, IsOkUnless};
 ghost use Rattle.std.specs.Io.KnownBytes.{Appends};
 ghost use Rattle.lexical_util.specs.Ascii.{line_feed};
-ghost use Rattle.answer_lines.specs.Decimal.{decimal_text, signed_text};
-ghost use Rattle.answer_lines.specs.Gather.{GainsFront, Gathers, Sends};
-ghost use Rattle.answer_lines.specs.Output.{fault_answer, place_text};
+ghost use Rattle.lexical_literals.specs.Tokens.{view_of_token};
+ghost use Rattle.answer_lines.specs.Decimal.{signed_text};
+ghost use Rattle.answer_lines.specs.Gather.{GainsFront, Sends};
+ghost use Rattle.answer_lines.specs.Output.{fault_answer, place_text, token_text};
 
-use crate::append::{add_fault_line, add_found_line, add_value_line};
-use crate::decimal::{MOST_DIGITS, add_decimal};
+use crate::append::{add_fault_line, add_text, add_token_line, add_value_line};
+use crate::decimal::add_byte;
 use crate::fault::RunError;
+use crate::literals::Token;
 use crate::number::Number;
 use lexical_parse_integer::Error;
 use std::io::Write;
 use std::marker::Model;
 
-/// How many bytes go out at once.
-pub const SIZE: usize = 65536;
+/// How many bytes go out at once, at most.
+const SIZE: usize = 65536;
+
+/// Where fewer bytes are left, the batch goes out before a further line. The longest has at most 92.
+const LINE_ROOM: usize = 128;
 
 /// Bytes that wait to go out. A clause sees them as their list.
 #[derive(Drop)]
@@ -44,71 +49,62 @@ impl Batch {
         }
     }
 
-    /// How many more bytes it can take.
+    // Whether any line fits.
     #[inline(always)]
-    pub(crate) fn room(&self) -> usize
-        ensures { result + length self.now ≡ 65536 }
+    fn has_room(&self) -> bool
+        ensures { IsTrue result ↔ (length self.now + 128 ≤ 65536) }
     {
-        SIZE - self.count
+        self.count <= SIZE - LINE_ROOM
     }
 
-    /// Adds bytes that it has room for.
+    /// Adds a text and a line feed.
     #[inline(always)]
-    fn add(&mut self, bytes: &[u8])
-        requires { length self.old + length bytes.now ≤ 65536 }
-        ensures { self.new ≡ self.old ++ bytes.now }
+    pub fn add_text_line(&mut self, text: &[u8])
+        requires { length self.old + length text.now + 1 ≤ 65536 }
+        ensures { self.new ≡ self.old ++ (text.now ++ line_feed ∷ []) }
     {
-        let end = self.count + bytes.len();
-        self.held[self.count..end].copy_from_slice(bytes);
-        self.count = end;
+        let end = add_text(text, &mut self.held, self.count);
+        self.count = add_byte(b'\n', &mut self.held, end);
     }
 
-    /// Adds the digits of a number, where it has room for the longest.
+    /// Adds `ok V`, a space and the place where there is one, and a line feed.
     #[inline(always)]
-    fn add_decimal(&mut self, number: u128)
-        requires { length self.old + 40 ≤ 65536 }
-        ensures { self.new ≡ self.old ++ decimal_text number }
-    {
-        self.count = add_decimal(number, &mut self.held, self.count);
-    }
-
-    /// Adds `ok V` and a line feed, where it has room for the longest.
-    #[inline(always)]
-    pub(crate) fn add_value_line(&mut self, value: &Number)
-        requires { length self.old + 45 ≤ 65536 }
-        ensures { self.new
-            ≡ self.old ++ (codes "ok " ++ signed_text value.now ++ line_feed ∷ []) }
-    {
-        self.count = add_value_line(value, &mut self.held, self.count);
-    }
-
-    /// Adds `ok V PLACE` and a line feed, where it has room for the longest.
-    #[inline(always)]
-    pub(crate) fn add_found_line(&mut self, value: &Number, stop: usize)
-        requires { length self.old + 66 ≤ 65536 }
+    pub fn add_value_line(&mut self, value: &Number, at: Option<usize>)
+        requires { length self.old + 128 ≤ 65536 }
         ensures { self.new ≡ self.old
-            ++ (codes "ok " ++ signed_text value.now ++ place_text (Some stop) ++ line_feed ∷ []) }
+            ++ (codes "ok " ++ signed_text value.now ++ place_text at ++ line_feed ∷ []) }
     {
-        self.count = add_found_line(value, stop, &mut self.held, self.count);
+        self.count = add_value_line(value, at, &mut self.held, self.count);
     }
 
-    /// Adds `err NAME PLACE` and a line feed, where it has room for the longest.
-    #[inline(always)]
-    pub(crate) fn add_fault_line(&mut self, fault: Error)
-        requires { length self.old + 48 ≤ 65536 }
+    /// Adds `err NAME PLACE` and a line feed. A fault without a place has its name alone. It stays out of line, since
+    /// the parser of each type calls it.
+    #[inline(never)]
+    pub fn add_fault_line(&mut self, fault: Error)
+        requires { length self.old + 128 ≤ 65536 }
         ensures { self.new ≡ self.old ++ (fault_answer fault ++ line_feed ∷ []) }
     {
         self.count = add_fault_line(fault, &mut self.held, self.count);
     }
 
-    /// Its bytes.
+    /// Adds what a token is, where it starts and stops, and a line feed.
+    #[inline(always)]
+    pub fn add_token_line(&mut self, token: &Token<'_>)
+        requires { length self.old + 128 ≤ 65536 }
+        ensures { self.new
+            ≡ self.old ++ (token_text (view_of_token token.now) ++ line_feed ∷ []) }
+    {
+        self.count = add_token_line(token, &mut self.held, self.count);
+    }
+
+    // Its bytes.
     fn bytes(&self) -> &[u8]
         ensures { result.now ≡ self.now }
     {
         &self.held[..self.count]
     }
 
-    /// Lets go of its bytes.
+    // Lets go of its bytes.
     fn clear(&mut self)
         ensures { self.new ≡ [] }
     {
@@ -116,8 +112,7 @@ impl Batch {
     }
 }
 
-/// Writes all the bytes, by as many writes as it takes. A write that takes no byte, or is
-/// interrupted, is refused.
+// Writes all the bytes, by as many writes as it takes. A write that takes no byte, or is interrupted, is refused.
 fn write_out<W: Write>(bytes: &[u8], out: &mut W) -> Result<(), RunError>
     ensures ok { OnOk result (Appends (W.contents out.old) (W.contents out.new) bytes.now) }
     ensures front { GainsFront (W.contents out.old) (W.contents out.new) bytes.now }
@@ -146,6 +141,7 @@ fn write_batch<W: Write>(batch: &Batch, out: &mut W) -> Result<(), RunError>
 
 /// Writes what the batch holds, and empties it. After a refused write it holds what it held, and a
 /// front of that was written.
+#[inline(never)]
 pub fn send<W: Write>(batch: &mut Batch, out: &mut W) -> Result<(), RunError>
     ensures ok { OnOk result (Appends (W.contents out.old) (W.contents out.new) batch.old) }
     ensures front { GainsFront (W.contents out.old) (W.contents out.new) batch.old }
@@ -158,77 +154,19 @@ pub fn send<W: Write>(batch: &mut Batch, out: &mut W) -> Result<(), RunError>
     Ok(())
 }
 
-/// Adds the bytes to the batch. Where they do not fit, what it holds goes out first, and where
-/// they are more than it can ever hold they follow at once.
+/// Sends the batch where not every line fits.
 #[inline(always)]
-pub fn put<W: Write>(bytes: &[u8], batch: &mut Batch, out: &mut W) -> Result<(), RunError>
-    ensures ok { OnOk result (Gathers (W.contents out.old) batch.old (W.contents out.new) batch.new
-        bytes.now) }
-    ensures front { GainsFront (W.contents out.old) (W.contents out.new)
-        (batch.old ++ bytes.now) }
+pub fn make_room<W: Write>(batch: &mut Batch, out: &mut W) -> Result<(), RunError>
+    ensures ok { OnOk result
+        (Sends (W.contents out.old) (W.contents out.new) batch.old batch.new) }
+    ensures room { OnOk result (length batch.new + 128 ≤ 65536) }
+    ensures front { OnErr result
+        (GainsFront (W.contents out.old) (W.contents out.new) batch.old) }
     ensures fault { IsOkUnless result RunError.Write }
 {
-    if bytes.len() <= batch.room() {
-        batch.add(bytes);
+    if batch.has_room() {
         return Ok(());
     }
-    put_after_sending(bytes, batch, out)
-}
-
-// Where the bytes do not fit. It stays out of line, so that a few bytes that fit are added in place.
-#[inline(never)]
-fn put_after_sending<W: Write>(bytes: &[u8], batch: &mut Batch, out: &mut W) -> Result<(), RunError>
-    ensures ok { OnOk result (Gathers (W.contents out.old) batch.old (W.contents out.new) batch.new
-        bytes.now) }
-    ensures front { GainsFront (W.contents out.old) (W.contents out.new)
-        (batch.old ++ bytes.now) }
-    ensures fault { IsOkUnless result RunError.Write }
-{
     send(batch, out)?;
-    put_into_empty(bytes, batch, out)
-}
-
-// Adds the bytes to a batch that holds nothing. Where they are more than it can ever hold they go out at once.
-#[inline(always)]
-fn put_into_empty<W: Write>(bytes: &[u8], batch: &mut Batch, out: &mut W) -> Result<(), RunError>
-    requires empty { batch.old ≡ [] }
-    ensures ok { OnOk result (Sends (W.contents out.old) (W.contents out.new) bytes.now batch.new) }
-    ensures front { GainsFront (W.contents out.old) (W.contents out.new) bytes.now }
-    ensures fault { IsOkUnless result RunError.Write }
-{
-    if bytes.len() <= SIZE {
-        batch.add(bytes);
-        return Ok(());
-    }
-    write_out(bytes, out)
-}
-
-/// Adds the digits of a number, as `put` does.
-#[inline(always)]
-pub fn put_decimal<W: Write>(number: u128, batch: &mut Batch, out: &mut W) -> Result<(), RunError>
-    ensures ok { OnOk result (Gathers (W.contents out.old) batch.old (W.contents out.new) batch.new
-        (decimal_text number)) }
-    ensures front { GainsFront (W.contents out.old) (W.contents out.new)
-        (batch.old ++ decimal_text number) }
-    ensures fault { IsOkUnless result RunError.Write }
-{
-    if batch.room() < MOST_DIGITS {
-        return put_apart(number, batch, out);
-    }
-    batch.add_decimal(number);
     Ok(())
-}
-
-// Where the batch may have no room.
-#[inline(never)]
-fn put_apart<W: Write>(number: u128, batch: &mut Batch, out: &mut W) -> Result<(), RunError>
-    ensures ok { OnOk result (Gathers (W.contents out.old) batch.old (W.contents out.new) batch.new
-        (decimal_text number)) }
-    ensures front { GainsFront (W.contents out.old) (W.contents out.new)
-        (batch.old ++ decimal_text number) }
-    ensures fault { IsOkUnless result RunError.Write }
-{
-    let mut digits = [0u8; MOST_DIGITS];
-    let end = add_decimal(number, &mut digits, 0);
-    put(&digits[..end], batch, out)
 }

@@ -7,9 +7,6 @@ mod pairs;
 
 use crate::decimal::pairs::PAIRS;
 
-/// The room that the longest number asks for.
-pub const MOST_DIGITS: usize = 40;
-
 /// What splits off the last sixteen digits, which a `u64` holds.
 const GROUP: u128 = 10_000_000_000_000_000;
 

@@ -3,7 +3,7 @@
 
 mod answer;
 mod append;
-pub mod batch;
+mod batch;
 mod buffer;
 mod command;
 mod decimal;

@@ -78,15 +78,4 @@ impl Number {
     {
         self.magnitude
     }
-
-    // The same number in a place of its own.
-    #[inline(always)]
-    pub(crate) fn copied(&self) -> Number
-        ensures { result ≡ self.now }
-    {
-        Number {
-            is_negative: self.is_negative,
-            magnitude: self.magnitude,
-        }
-    }
 }

@@ -266,7 +266,7 @@ pub(super) fn value_of_groups<T: Integer>(
     }
     let head = head_at_once::<T>(bytes, format, is_negative, start)?;
     // Behind a prefix digits stand alone here: with a separator among the last ones they are read from the left at once.
-    if head.is_prefixed && is_parted_otherwise(bytes, separator) {
+    if T::BITS >= 32 && head.is_prefixed && is_parted_otherwise(bytes, separator) {
         return None;
     }
     if head.radix != 10 || T::BITS < 32 || !format.integer_internal_digit_separator() {

@@ -109,7 +109,7 @@ fn a_refused_read_writes_nothing(rt: HostRuntime) -> Result<(), Fail> {
     Ok(())
 }
 
-/// The long runs write 135,000 and 360,000 bytes, by 65,529 at a time.
+/// The long runs write 135,000 and 360,000 bytes, by some 65,400 at a time.
 #[test]
 fn a_refused_write_or_flush_is_told(rt: HostRuntime) -> Result<(), Fail> {
     let alloc = rt.alloc();
