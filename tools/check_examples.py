@@ -226,8 +226,8 @@ def of_words() -> Iterator[Case]:
     bank = "Rent: -123450\nBooks: 700\n"
     yield Case("statement", said=bank + "row 2, byte 37: invalid digit\n")
     yield Case("statement", status=1, told=IS_FULL, redirected=FULL)
-    yield Case("bank_statement", said=bank + 'line 2, column 3: "12,5o": invalid digit at byte 4 of '
-               "the cell\n")
+    wrong = 'line 2, column 3: "12,5o": invalid digit at byte 4 of the cell\n'
+    yield Case("bank_statement", said=bank + wrong)
     yield Case("bank_statement", status=2, told=f"bank_statement: {IS_FULL}", redirected=FULL)
     yield Case("colour")
     yield Case("colour", said="30 144 255\n0 1 2\n", words=("1e90FF", "000102"))
