@@ -273,18 +273,13 @@ impl TableColumn for ColumnFields<'_> {
         self.put_presence(row, false);
     }
 
-    // Tables hand texts to `keep_text`: so it stays out of the way of numbers.
+    // Texts stay out of the way of numbers.
     #[inline(never)]
     fn put_text(&mut self, row: usize, text: CellText) {
         if self.is_text() {
-            self.keep_text(row, text);
+            self.put_place(row, text_fields(text));
+            self.put_presence(row, true);
         }
-    }
-
-    #[inline(always)]
-    fn keep_text(&mut self, row: usize, text: CellText) {
-        self.put_place(row, text_fields(text));
-        self.put_presence(row, true);
     }
 
     fn read(

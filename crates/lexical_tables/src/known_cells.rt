@@ -43,7 +43,7 @@ pub(crate) fn read_text<C: TableColumn>(
     if is_missing {
         target.put_missing(row);
     } else {
-        target.keep_text(row, text_of(held, dialect.has_quotes));
+        target.put_text(row, text_of(held, dialect.has_quotes));
     }
     true
 }

@@ -143,19 +143,6 @@ pub trait TableColumn {
             ≡ option_map (put_value row (Some (Text (view_of_text text)))) (target self.old) }
         ensures other { keeps_text (target self.old) ≡ false → target self.new ≡ target self.old };
 
-    /// Does what `put_text` does, of a column that is known to have texts: it needn't be asked again.
-    ///
-    /// A column that doesn't write it asks `put_text`.
-    #[inline(always)]
-    fn keep_text(&mut self, row: usize, text: CellText)
-        requires texts { keeps_text (target self.old) ≡ true }
-        requires usable { IsUsable (row + 1) (target self.old) }
-        ensures { target self.new
-            ≡ option_map (put_value row (Some (Text (view_of_text text)))) (target self.old) }
-    {
-        self.put_text(row, text);
-    }
-
     /// Puts the number that all of a text stands for into a row's place, and sets the row's bit, or tells the
     /// text's fault. What is ahead begins with the text.
     fn read(

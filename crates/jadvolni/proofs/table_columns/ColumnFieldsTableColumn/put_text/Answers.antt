@@ -3,7 +3,7 @@ use Rattle.std.specs.Prelude.{option_map}
 use Rattle.lexical_tables.specs.Targets.{view_of_text}
 use Rattle.jadvolni.specs.Tables.{put_place, target_of, text_view}
 use Rattle.jadvolni.proofs.TableBits.{place_usable, text_put}
-use Rattle.jadvolni.proofs.table_columns.ColumnFieldsTableColumn.keep_text.Goals as goal
+use Rattle.jadvolni.proofs.table_columns.ColumnFieldsTableColumn.put_text.Goals as goal
 
 pub put_presence-requires : goal.put_presence-requires
 put_presence-requires c = record {
@@ -11,8 +11,8 @@ put_presence-requires c = record {
       (target_of c.put_place.new.self) c.requires.usable c.put_place.ensures;
 }
 
-pub returns : goal.returns
-returns c =
+pub returns-then-is_text-clause-text : goal.returns-then-is_text-clause-text
+returns-then-is_text-clause-text c = λ texts.
     text_put c.args.row (view_of_text c.args.text) (target_of c.args.self.now) (target_of c.put_place.new.self)
     (target_of c.put_presence.new.self)
     (c.put_place.ensures
