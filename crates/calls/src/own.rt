@@ -35,8 +35,8 @@ impl TableColumn for Own<'_> {
         self.target.put_missing(row);
     }
 
-    fn put_text(&mut self, row: usize, text: CellText) {
-        self.target.put_text(row, text);
+    fn put_text(&mut self, code: u8, row: usize, text: CellText) {
+        self.target.put_text(code, row, text);
     }
 
     #[inline(always)]

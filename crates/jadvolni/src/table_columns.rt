@@ -273,10 +273,9 @@ impl TableColumn for ColumnFields<'_> {
         self.put_presence(row, false);
     }
 
-    // Texts stay out of the way of numbers.
-    #[inline(never)]
-    fn put_text(&mut self, row: usize, text: CellText) {
-        if self.is_text() {
+    #[inline(always)]
+    fn put_text(&mut self, code: u8, row: usize, text: CellText) {
+        if code == TEXTS {
             self.put_place(row, text_fields(text));
             self.put_presence(row, true);
         }
@@ -316,12 +315,7 @@ impl TableColumn for ColumnFields<'_> {
         options: &Options,
     ) -> Option<Error> {
         if self.is_text() {
-            let place = CellText {
-                start,
-                size: text.len(),
-                has_doubled_quotes: false,
-            };
-            self.put_text(row, place);
+            self.put_whole_text(row, start, text.len());
             return None;
         }
         if let Some(error) = self.put_parsed_number(row, start, text, ahead, options) {

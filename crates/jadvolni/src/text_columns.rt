@@ -1,12 +1,14 @@
 //! The texts of a table's columns, as C has them.
 
-ghost use Rattle.std.specs.Prelude.{◌≡◌, ◌+◌, false, option_map, true};
+ghost use Rattle.std.specs.Prelude.{◌≡◌, ◌+◌, Some, false, option_map, true};
 ghost use Rattle.lexical_tables.specs.ByColumn.{IsUsable};
-ghost use Rattle.lexical_tables.specs.Targets.{keeps_text, view_of_text};
+ghost use Rattle.lexical_tables.specs.Targets.{keeps_text, put_value, view_of_text};
+ghost use Rattle.lexical_tables.specs.Readings.{Text};
 ghost use Rattle.jadvolni.specs.Tables.{put_place, put_zero, target_of, text_view};
 
 use crate::table_columns::ColumnFields;
-use lexical_tables::CellText;
+use lexical_tables::codes::TEXTS;
+use lexical_tables::{CellText, TableColumn};
 
 /// Where a text stands that a cell holds: `jadvolni_cell_text` in C, where each field is described.
 #[repr(C)]
@@ -53,5 +55,23 @@ impl ColumnFields<'_> {
                 has_doubled_quotes: 0,
             },
         );
+    }
+    // Puts where a text without quotes stands into a row's place of a column of texts, and sets the row's bit. Texts stay out of
+    // the way of numbers.
+    #[inline(never)]
+    #[tactic(auto, using(lexical_tables::proofs::CodeSteps::text_code))]
+    pub(crate) fn put_whole_text(&mut self, row: usize, start: usize, size: usize)
+        requires text { keeps_text (target_of self.old) ≡ true }
+        requires usable { IsUsable (row + 1) (target_of self.old) }
+        ensures { target_of self.new ≡ option_map (put_value row (Some (Text
+            (record { start = start; size = size; has_doubled_quotes = false }))))
+            (target_of self.old) }
+    {
+        let text = CellText {
+            start,
+            size,
+            has_doubled_quotes: false,
+        };
+        self.put_text(TEXTS, row, text);
     }
 }

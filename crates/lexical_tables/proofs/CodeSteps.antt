@@ -142,3 +142,12 @@ unknown_codes dialect codes targets unknown k coded low =
       no_blanks = λ read. absurd (omega (arith, none, read));
       no_number = λ read. absurd (omega (arith, none, read));
     }
+
+-- a column of texts has their code
+pub text_code : (target : Option TargetView) → keeps_text target ≡ true → IsCode 2 target
+text_code target texts = record {
+  unread = λ is. absurd (omega (arith, is));
+  texts = λ is. texts;
+  numbers = λ is. absurd (omega (arith, is));
+  read = λ low. absurd (omega (arith, low));
+}

@@ -20,7 +20,7 @@ as_values row (Ok number) numbers = map-set Number numbers row number
 as_values row (Err error) numbers = refl
 
 -- a column whose numbers are in a slice
-abbrev column_of : (IntegerType → Reading) → Option Slice → Option (List ℕ) → Numbers → TargetView
+abbrev pub column_of : (IntegerType → Reading) → Option Slice → Option (List ℕ) → Numbers → TargetView
 column_of read bits present numbers = record {
   reading = read (type_of numbers);
   slice = slice_in numbers;

@@ -1,5 +1,5 @@
 -- A row of which some cells were read.
-use Rattle.std.specs.Prelude.{◌≡◌, ◌≢◌, ◌==◌, ◌&&◌, ◌+◌, ◌-◌, ◌/◌, ◌^◌, ◌<◌, ◌≤◌, ℕ, true, List, [], ◌++◌, length, slice_index, take, drop, Option, Some, None, Result, Ok, Err}
+use Rattle.std.specs.Prelude.{◌≡◌, ◌≢◌, ◌==◌, ◌&&◌, ◌+◌, ◌-◌, ◌/◌, ◌^◌, ◌<◌, ◌≤◌, ℕ, false, true, if◌then◌else◌, List, [], ◌∷◌, ◌++◌, length, slice_index, take, drop, Option, Some, None, Result, Ok, Err}
 use Rattle.lexical_fields.specs.Columns as columns
 use Rattle.lexical_fields.specs.Fields.{FieldView}
 use Rattle.lexical_tables.specs.ByColumn.{AreUsable, cell_answers, cells_left, cells_of, column_count, kinds_of, put_row, row_answers, row_fault, row_values, separator_of}
@@ -12,6 +12,7 @@ use Rattle.lexical_tables.specs.Targets.{TargetView}
 use Rattle.lexical_tables.specs.declared.answers.CellFault.{CellFault}
 use Rattle.lexical_tables.specs.declared.answers.TableError.{TableError}
 use Rattle.lexical_tables.specs.declared.dialect.Dialect.{Dialect}
+use Rattle.lexical_tables.specs.declared.next_part.Part.{Part}
 
 -- how many columns a row has
 abbrev pub count_in : Dialect → ℕ
@@ -93,16 +94,25 @@ GoesToEnd dialect index text from before after first column =
     (cells_behind dialect row first (length text - length from))
     → IsRowPut kinds dialect index row old after column []
 
--- The last cell of a text's first row stands in front of what is left of the text, and the row ends behind it.
-pub record IsLastPart (dialect : Dialect) (separator : ℕ) (text left : List ℕ)
-    (marks size end : ℕ) : Type 0 where
-  pub room : size + 17 ≤ length left
-  pub within : end + 17 ≤ length left
-  pub few : end < 64
-  pub row : (start : ℕ) → record {
+-- A part is the next cell of a text's first row, of which this is left: its size, what ends it, and whether it is the last.
+pub record IsPart (dialect : Dialect) (separator : ℕ) (text left : List ℕ) (marks : ℕ)
+    (part : Part) : Type 0 where
+  pub room : part.size + 17 ≤ length left
+  pub within : part.end + 17 ≤ length left
+  pub few : part.end < 64
+  pub cells : (start column : ℕ) → let row = first_row dialect start text in
+      let passed = length text - length left in
+      cells_behind dialect row column passed
+      ≡ record { start = start + passed; text = take part.size left }
+      ∷ (if part.is_last then [] else cells_behind dialect row (column + 1)
+      (length text - length (drop (part.end + 1) left)))
+  pub goes : part.is_last ≡ false → IsOnRow dialect separator text (drop (part.end + 1) left)
+  pub row : part.is_last ≡ true → (start : ℕ) → record {
     start = start;
-    text = take (length text - length left + size) text;
-    lacks_return = dialect.has_returns && (slice_index left size == line_feed);
+    text = take (length text - length left + part.size) text;
+    lacks_return = dialect.has_returns && (slice_index left part.size == line_feed);
   } ≡ first_row dialect start text
-  pub line : drop (end + 1) left ≡ behind_piece dialect.layout dialect.has_quotes text
-  pub ends : AreEnds dialect.has_quotes separator (drop (end + 1) left) (marks / 2 ^ end / 2)
+  pub line : part.is_last ≡ true
+      → drop (part.end + 1) left ≡ behind_piece dialect.layout dialect.has_quotes text
+  pub ends : AreEnds dialect.has_quotes separator (drop (part.end + 1) left)
+      (marks / 2 ^ part.end / 2)

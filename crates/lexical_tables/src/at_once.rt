@@ -6,7 +6,7 @@ ghost use Rattle.lexical_fields.specs.ReadFields.{field_answer};
 ghost use Rattle.lexical_tables.specs.ByColumn.{IsUsable};
 ghost use Rattle.lexical_tables.specs.Targets.{error_in, put_text, text_answer, text_fault, view_of_target, with_number};
 
-use crate::targets::Target;
+use crate::targets::{Target, put_presence};
 use lexical_fields::value_of_front;
 use lexical_parse_integer::NumberFormat;
 use lexical_parse_integer::parse::ParseInteger;
@@ -101,7 +101,7 @@ impl Target<'_> {
         if !self.put_number_at_once(row, ahead, size) {
             return false;
         }
-        self.put_presence(row, true);
+        put_presence(&mut self.present, row, true);
         true
     }
 

@@ -10,7 +10,7 @@ ghost use Rattle.lexical_tables.specs.Targets.{put_value, type_of, view_of_targe
 
 use crate::codes::{self, WITH_BITS, under_format};
 use crate::numbers::Numbers;
-use crate::targets::Target;
+use crate::targets::{Target, put_presence};
 
 impl Numbers<'_> {
     // The code of a column of such numbers, of which none may be missing.
@@ -62,7 +62,7 @@ impl Target<'_> {
         if !self.put_number(row, is_negative, number) {
             return false;
         }
-        self.put_presence(row, true);
+        put_presence(&mut self.present, row, true);
         true
     }
 

@@ -6,11 +6,11 @@ ghost use Rattle.lexical_tables.specs.Codes.{AreCodes, IsCodeIn};
 
 use crate::answers::TableError;
 use crate::by_column::read_by_column;
-use crate::codes::{CODED, NOT_READ, U8, UNKNOWN};
+use crate::codes::{CODED, NOT_READ, TEXTS, U8, UNKNOWN};
 use crate::content::Cell;
 use crate::dialect::Dialect;
 use crate::digit_cells::{read_coded, read_long_coded};
-use crate::known_cells::read_known;
+use crate::known_cells::{read_known, read_plain_text};
 use crate::targets::TableColumn;
 use lexical_parse_integer::Options;
 
@@ -89,6 +89,35 @@ fn read_long_cell<C: TableColumn>(
         size,
         dialect,
     )
+}
+
+// Reads the cell of a column of texts as `read_plain_text` does, the first bytes of a text, so many.
+#[inline(always)]
+fn read_plain_cell<C: TableColumn>(
+    targets: &mut [C],
+    column: usize,
+    row: usize,
+    start: usize,
+    ahead: &[u8],
+    size: usize,
+    dialect: &Dialect<'_>,
+) -> bool
+    requires code { column < length targets.old
+        → IsCodeIn dialect.now TEXTS (get_or (map C.target targets.old) column None) }
+    requires usable { AreUsable (row + 1) (map C.target targets.old) }
+    requires within { size ≤ length ahead.now }
+    ensures fault { IsTrue result → fault_in (answer_at dialect.now
+        (kinds_of (map C.target targets.old)) column
+        (record { start = start; text = take size ahead.now })) ≡ None }
+    ensures targets { IsTrue result → map C.target targets.new ≡ put_read_at row column
+        (answer_at dialect.now (kinds_of (map C.target targets.old)) column
+        (record { start = start; text = take size ahead.now })) (map C.target targets.old) }
+    ensures kept { result ≡ false → map C.target targets.new ≡ map C.target targets.old }
+{
+    if dialect.has_quotes || column >= targets.len() {
+        return false;
+    }
+    read_plain_text(&mut targets[column], row, start, ahead, size, dialect)
 }
 
 // Reads the cell of a column as `read_known` does, the first bytes of a text, so many. Why out of line: docs/DECISIONS.md, code.
@@ -177,6 +206,11 @@ fn read_by_code<C: TableColumn>(
     }
     if code <= NOT_READ {
         return false;
+    }
+    if code == TEXTS {
+        if read_plain_cell(targets, column, row, start, ahead, size, dialect) {
+            return true;
+        }
     }
     read_known_cell(targets, code, column, row, start, ahead, size, dialect)
 }

@@ -56,10 +56,14 @@ impl TableColumn for Column<'_> {
         }
     }
 
-    fn put_text(&mut self, row: usize, text: CellText) {
+    #[inline(always)]
+    fn put_text(&mut self, code: u8, row: usize, text: CellText) {
+        if code != TEXTS {
+            return;
+        }
         match self {
             Column::Texts(target) => target.put_text(row, text),
-            Column::Unread | Column::Integers(_) | Column::FixedPoints(_) => {}
+            Column::Unread | Column::Integers(_) | Column::FixedPoints(_) => unreachable!(),
         }
     }
 

@@ -7,7 +7,7 @@ ghost use Rattle.lexical_tables.specs.Readings.{Number, fixed_answer};
 ghost use Rattle.lexical_tables.specs.Targets.{error_in, put_text, put_value, text_answer, text_fault, view_of_fixed, with_number, with_row_bit};
 
 use crate::numbers::Numbers;
-use crate::targets::put_bit;
+use crate::targets::put_presence;
 use lexical_fields::error_in_text;
 use lexical_fixed::laws::fault_places;
 use lexical_fixed::quick::value_at_once;
@@ -98,31 +98,8 @@ impl FixedTarget<'_> {
         requires usable { IsUsable (row + 1) (Some (view_of_fixed self.old)) }
         ensures { view_of_fixed self.new ≡ put_value row None (view_of_fixed self.old) }
     {
-        self.put_zero(row);
-        self.put_presence(row, false);
-    }
-
-    // Puts 0 into a row's place.
-    fn put_zero(&mut self, row: usize)
-        requires room { row < length (view_of_fixed self.old).values }
-        ensures { view_of_fixed self.new ≡ record (view_of_fixed self.old) {
-          values = set (view_of_fixed self.old).values row (Number (pos 0));
-        } }
-    {
         self.numbers.put_zero(row);
-    }
-
-    // Sets a row's bit, or clears it, if the column has bits.
-    fn put_presence(&mut self, row: usize, is_there: bool)
-        requires room { IfSome (view_of_fixed self.old).present
-            (λ bytes. row + 1 ≤ 8 * length bytes) }
-        ensures { view_of_fixed self.new ≡ record (view_of_fixed self.old) {
-          present = option_map (with_row_bit row is_there) (view_of_fixed self.old).present;
-        } }
-    {
-        if let Some(bytes) = &mut self.present {
-            put_bit(bytes, row, is_there);
-        }
+        put_presence(&mut self.present, row, false);
     }
 
     // Puts the number of a text's first bytes, so many, into a row's place, and sets the row's bit, where it is had at once, and
@@ -139,7 +116,7 @@ impl FixedTarget<'_> {
         if !self.put_number_at_once(row, ahead, size) {
             return false;
         }
-        self.put_presence(row, true);
+        put_presence(&mut self.present, row, true);
         true
     }
 
@@ -174,7 +151,7 @@ impl FixedTarget<'_> {
         if let Some(error) = self.put_number(row, start, text) {
             return Some(error);
         }
-        self.put_presence(row, true);
+        put_presence(&mut self.present, row, true);
         None
     }
 

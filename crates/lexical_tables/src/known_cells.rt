@@ -6,6 +6,7 @@ ghost use Rattle.lexical_tables.specs.Cells.{answer_as, quote_fault, view_of_cel
 ghost use Rattle.lexical_tables.specs.Codes.{IsCodeIn};
 ghost use Rattle.lexical_tables.specs.Targets.{has_numbers, keeps_text, put_text, text_fault};
 
+use crate::cell_text::CellText;
 use crate::codes::{AT_ONCE, TEXTS};
 use crate::content::{Cell, content, text_of};
 use crate::dialect::Dialect;
@@ -15,6 +16,7 @@ use crate::targets::TableColumn;
 // Reads a cell in its column of texts, if its quotes are in place, and tells whether they are: it holds the mark, or a text, and
 // where that stands goes to the row's place.
 #[inline(always)]
+#[tactic(auto, using(crate::proofs::CodeSteps::text_code))]
 pub(crate) fn read_text<C: TableColumn>(
     target: &mut C,
     row: usize,
@@ -43,8 +45,46 @@ pub(crate) fn read_text<C: TableColumn>(
     if is_missing {
         target.put_missing(row);
     } else {
-        target.put_text(row, text_of(held, dialect.has_quotes));
+        target.put_text(TEXTS, row, text_of(held, dialect.has_quotes));
     }
+    true
+}
+
+// Reads a cell in its column of texts where quotes have no meaning, the first bytes of a text, so many, if the mark has another
+// size, and tells whether it did: so no byte is read.
+#[inline(always)]
+#[tactic(auto, using(crate::proofs::CodeSteps::text_code))]
+pub(crate) fn read_plain_text<C: TableColumn>(
+    target: &mut C,
+    row: usize,
+    start: usize,
+    ahead: &[u8],
+    size: usize,
+    dialect: &Dialect<'_>,
+) -> bool
+    requires usable { IsUsable (row + 1) (C.target target.old) }
+    requires text { keeps_text (C.target target.old) ≡ true }
+    requires quotes { dialect.now.has_quotes ≡ false }
+    requires within { size ≤ length ahead.now }
+    ensures fault { IsTrue result → fault_in (answer_as dialect.now
+        (option_map kind_of (C.target target.old))
+        (record { start = start; text = take size ahead.now })) ≡ None }
+    ensures target { IsTrue result → C.target target.new ≡ option_map (put_read row
+        (answer_as dialect.now (option_map kind_of (C.target target.old))
+        (record { start = start; text = take size ahead.now }))) (C.target target.old) }
+    ensures kept { result ≡ false → C.target target.new ≡ C.target target.old }
+{
+    if target.may_miss() {
+        if size == dialect.missing.len() {
+            return false;
+        }
+    }
+    let text = CellText {
+        start,
+        size,
+        has_doubled_quotes: false,
+    };
+    target.put_text(TEXTS, row, text);
     true
 }
 

@@ -2,7 +2,7 @@
 
 ghost use Rattle.std.specs.Prelude.{◌≡◌, ◌≢◌, ◌==◌, ◌&&◌, ◌+◌, ◌-◌, ◌/◌, ◌^◌, ◌<◌, ◌≤◌, ℕ, [], ◌∷◌, false, if◌then◌else◌, drop, length, slice_index, take, true};
 ghost use Rattle.lexical_tables.specs.Ends.{AreEnds};
-ghost use Rattle.lexical_tables.specs.RowSoFar.{IsMarked, IsOnRow, cells_behind};
+ghost use Rattle.lexical_tables.specs.RowSoFar.{IsMarked, IsOnRow, IsPart};
 ghost use Rattle.lexical_tables.specs.Rows.{behind_piece, carriage_return, first_row, line_feed};
 
 use crate::dialect::Dialect;
@@ -82,29 +82,7 @@ pub(crate) fn next_part(
     requires marks { AreEnds dialect.now.has_quotes separator left.now marks }
     requires here { IsOnRow dialect.now separator text.now left.now }
     requires marked { IsMarked dialect.now separator }
-    ensures room { result.size + 17 ≤ length left.now }
-    ensures within { result.end + 17 ≤ length left.now }
-    ensures few { result.end < 64 }
-    ensures cells { (start column : ℕ) → cells_behind dialect.now
-        (first_row dialect.now start text.now) column (length text.now - length left.now)
-        ≡ record {
-          start = start + (length text.now - length left.now);
-          text = take result.size left.now;
-        }
-        ∷ (if result.is_last then []
-        else cells_behind dialect.now (first_row dialect.now start text.now) (column + 1)
-        (length text.now - length (drop (result.end + 1) left.now))) }
-    ensures goes { result.is_last ≡ false
-        → IsOnRow dialect.now separator text.now (drop (result.end + 1) left.now) }
-    ensures row { result.is_last ≡ true → (start : ℕ) → record {
-      start = start;
-      text = take (length text.now - length left.now + result.size) text.now;
-      lacks_return = dialect.now.has_returns && (slice_index left.now result.size == line_feed);
-    } ≡ first_row dialect.now start text.now }
-    ensures line { result.is_last ≡ true → drop (result.end + 1) left.now
-        ≡ behind_piece dialect.now.layout dialect.now.has_quotes text.now }
-    ensures marks { AreEnds dialect.now.has_quotes separator (drop (result.end + 1) left.now)
-        (marks / 2 ^ result.end / 2) }
+    ensures { IsPart dialect.now separator text.now left.now marks result }
 {
     let end = first_end(left, marks, separator, dialect.has_quotes);
     if left[end] != b'\n' {

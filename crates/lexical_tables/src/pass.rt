@@ -5,7 +5,7 @@ ghost use Rattle.lexical_tables.specs.ByColumn.{AreUsable, StopsAt, answer_at, c
 ghost use Rattle.lexical_tables.specs.Codes.{AreCodes};
 ghost use Rattle.lexical_tables.specs.Ends.{AreEnds, AreEndsIf};
 ghost use Rattle.lexical_tables.specs.Quotes.{quote};
-ghost use Rattle.lexical_tables.specs.RowSoFar.{GoesOn, GoesToEnd, IsLastPart, IsMarked, IsOnRow};
+ghost use Rattle.lexical_tables.specs.RowSoFar.{GoesOn, GoesToEnd, IsMarked, IsOnRow, IsPart};
 ghost use Rattle.lexical_tables.specs.Rows.{FirstCounts, behind_piece, carriage_return, first_row, rows_from};
 
 use crate::answers::{CellFault, Table, TableError};
@@ -97,8 +97,8 @@ fn read_cells_at_once<'a, C: TableColumn, const HAS_QUOTES: bool>(
         result.left.marks }
     ensures codes { AreCodes dialect.now codes.now (map C.target targets.new) }
     ensures usable { AreUsable (index + 1) (map C.target targets.new) }
-    ensures part { result.part.is_last ≡ true → IsLastPart dialect.now separator text.now
-        result.left.text.now result.left.marks result.part.size result.part.end }
+    ensures part { result.part.is_last ≡ true → IsPart dialect.now separator text.now
+        result.left.text.now result.left.marks result.part }
     ensures counted { first ≤ result.column }
     ensures few { first ≤ columns → result.column ≤ columns }
 {
@@ -145,8 +145,9 @@ fn end_row<'a>(
     requires columns { columns ≡ column_count dialect.now.layout }
     requires few { read.column ≤ columns }
     requires within { length read.left.text.now ≤ length text.now }
-    requires part { IsLastPart dialect.now separator text.now read.left.text.now read.left.marks
-        read.part.size read.part.end }
+    requires part { IsPart dialect.now separator text.now read.left.text.now read.left.marks
+        read.part }
+    requires last { read.part.is_last ≡ true }
     requires fits { start + length text.now < 2 ^ 64 }
     ensures fault { wrong.new ≡ end_fault columns index (first_row dialect.now start text.now)
         read.entry.column None }

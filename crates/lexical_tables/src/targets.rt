@@ -1,6 +1,6 @@
 //! Where the numbers of a table's columns go.
 
-ghost use Rattle.std.specs.Prelude.{◌≡◌, ◌+◌, ◌*◌, ◌<◌, ◌≤◌, ◌^◌, ℕ, Ok, Option, None, Some, false, length, take, map, set, is_some, option_map, pos, IfSome, IsNone, IsTrue, true};
+ghost use Rattle.std.specs.Prelude.{◌≡◌, ◌≢◌, ◌+◌, ◌*◌, ◌<◌, ◌≤◌, ◌^◌, ℕ, Ok, Option, None, Some, false, length, take, map, set, is_some, option_map, pos, IfSome, IsNone, IsTrue, true};
 ghost use Rattle.lexical_digits.specs.Value.{with_sign};
 ghost use Rattle.lexical_util.specs.Format.{standard};
 ghost use Rattle.lexical_util.specs.Number.{IsNumber};
@@ -9,11 +9,11 @@ ghost use Rattle.lexical_fields.specs.ReadFields.{field_answer};
 ghost use Rattle.lexical_tables.specs.ByColumn.{IsUsable};
 ghost use Rattle.lexical_tables.specs.Codes.{IsCode, IsReadAs, coded_type};
 ghost use Rattle.lexical_tables.specs.Readings.{Number, Text};
-ghost use Rattle.lexical_tables.specs.Targets.{TargetView, error_in, has_bits, keeps_text, put_text, put_value, text_answer, text_fault, view_of_target, view_of_text, with_number, with_row_bit};
+ghost use Rattle.lexical_tables.specs.Targets.{TargetView, error_in, has_bits, keeps_text, put_text, put_value, slice_of, text_answer, text_fault, view_of_target, view_of_text, with_number, with_row_bit};
 
 use crate::at_once::put_at_once;
 use crate::cell_text::CellText;
-use crate::codes::{NOT_READ, UNKNOWN};
+use crate::codes::{NOT_READ, TEXTS, UNKNOWN};
 use crate::numbers::Numbers;
 use crate::parsed::{put_parsed, put_standard_parsed};
 use lexical_parse_integer::parse::ParseInteger;
@@ -111,6 +111,20 @@ pub fn put_bit(bytes: &mut [u8], row: usize, is_there: bool)
     }
 }
 
+// Sets a row's bit, or clears it, where there are bits.
+#[inline(always)]
+pub(crate) fn put_presence(present: &mut Option<&mut [u8]>, row: usize, is_there: bool)
+    requires room { IfSome (option_map (λ bytes. bytes.now) present.old)
+        (λ bytes. row + 1 ≤ 8 * length bytes) }
+    ensures bits { option_map (λ bytes. bytes.now) present.new
+        ≡ option_map (with_row_bit row is_there) (option_map (λ bytes. bytes.now) present.old) }
+    ensures same { option_map slice_of present.new ≡ option_map slice_of present.old }
+{
+    if let Some(bytes) = present {
+        put_bit(bytes, row, is_there);
+    }
+}
+
 /// A column of a table: its cells are read, and their numbers put somewhere, or they aren't read.
 ///
 /// An `Option<Target>` is one. Another type may be one too, if it meets the clauses.
@@ -135,13 +149,14 @@ pub trait TableColumn {
         requires usable { IsUsable (row + 1) (target self.old) }
         ensures { target self.new ≡ option_map (put_value row None) (target self.old) };
 
-    /// Puts where a text stands into a row's place, and sets the row's bit, in a column of texts. Another column stays as it
-    /// is.
-    fn put_text(&mut self, row: usize, text: CellText)
+    /// Puts where a text stands into a row's place, and sets the row's bit, where the code is `TEXTS`. It has to be right for
+    /// the column; by another code nothing is put.
+    fn put_text(&mut self, code: u8, row: usize, text: CellText)
+        requires code { IsCode code (target self.old) }
         requires usable { IsUsable (row + 1) (target self.old) }
-        ensures text { keeps_text (target self.old) ≡ true → target self.new
+        ensures text { code ≡ TEXTS → target self.new
             ≡ option_map (put_value row (Some (Text (view_of_text text)))) (target self.old) }
-        ensures other { keeps_text (target self.old) ≡ false → target self.new ≡ target self.old };
+        ensures other { code ≢ TEXTS → target self.new ≡ target self.old };
 
     /// Puts the number that all of a text stands for into a row's place, and sets the row's bit, or tells the
     /// text's fault. What is ahead begins with the text.
@@ -252,7 +267,7 @@ impl TableColumn for Option<Target<'_>> {
         }
     }
 
-    fn put_text(&mut self, row: usize, text: CellText) {}
+    fn put_text(&mut self, code: u8, row: usize, text: CellText) {}
 
     fn put_missing(&mut self, row: usize) {
         match self {
@@ -322,32 +337,8 @@ impl Target<'_> {
         requires usable { IsUsable (row + 1) (Some (view_of_target self.old)) }
         ensures { view_of_target self.new ≡ put_value row None (view_of_target self.old) }
     {
-        self.put_zero(row);
-        self.put_presence(row, false);
-    }
-
-    // Puts 0 into a row's place.
-    fn put_zero(&mut self, row: usize)
-        requires room { row < length (view_of_target self.old).values }
-        ensures { view_of_target self.new ≡ record (view_of_target self.old) {
-          values = set (view_of_target self.old).values row (Number (pos 0));
-        } }
-    {
         self.numbers.put_zero(row);
-    }
-
-    // Sets a row's bit, or clears it, if the column has bits.
-    #[inline(always)]
-    pub(crate) fn put_presence(&mut self, row: usize, is_there: bool)
-        requires room { IfSome (view_of_target self.old).present
-            (λ bytes. row + 1 ≤ 8 * length bytes) }
-        ensures { view_of_target self.new ≡ record (view_of_target self.old) {
-          present = option_map (with_row_bit row is_there) (view_of_target self.old).present;
-        } }
-    {
-        if let Some(bytes) = &mut self.present {
-            put_bit(bytes, row, is_there);
-        }
+        put_presence(&mut self.present, row, false);
     }
 
     // Puts the number of a text that isn't had at once into a row's place, and sets the row's bit, or tells the text's fault.
@@ -363,7 +354,7 @@ impl Target<'_> {
         if let Some(error) = self.put_parsed_number(row, start, text) {
             return Some(error);
         }
-        self.put_presence(row, true);
+        put_presence(&mut self.present, row, true);
         None
     }
 

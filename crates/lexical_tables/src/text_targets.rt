@@ -6,7 +6,7 @@ ghost use Rattle.lexical_tables.specs.Readings.{Text, Texts, blank};
 ghost use Rattle.lexical_tables.specs.Targets.{put_value, view_of_text, view_of_texts, with_row_bit};
 
 use crate::cell_text::CellText;
-use crate::targets::put_bit;
+use crate::targets::put_presence;
 
 /// What is kept of a column of texts: where they stand, in a slice.
 #[derive(Drop)]
@@ -32,7 +32,7 @@ impl TextTarget<'_> {
         ensures { view_of_texts self.new ≡ put_value row None (view_of_texts self.old) }
     {
         self.put_place(row, NO_TEXT);
-        self.put_presence(row, false);
+        put_presence(&mut self.present, row, false);
     }
 
     // Puts where a text stands into a row's place, and sets the row's bit.
@@ -42,7 +42,7 @@ impl TextTarget<'_> {
             ≡ put_value row (Some (Text (view_of_text text))) (view_of_texts self.old) }
     {
         self.put_place(row, text);
-        self.put_presence(row, true);
+        put_presence(&mut self.present, row, true);
     }
 
     // Puts where a text stands into a row's place.
@@ -53,18 +53,5 @@ impl TextTarget<'_> {
         } }
     {
         self.texts[row] = text;
-    }
-
-    // Sets a row's bit, or clears it, if the column has bits.
-    fn put_presence(&mut self, row: usize, is_there: bool)
-        requires room { IfSome (view_of_texts self.old).present
-            (λ bytes. row + 1 ≤ 8 * length bytes) }
-        ensures { view_of_texts self.new ≡ record (view_of_texts self.old) {
-          present = option_map (with_row_bit row is_there) (view_of_texts self.old).present;
-        } }
-    {
-        if let Some(bytes) = &mut self.present {
-            put_bit(bytes, row, is_there);
-        }
     }
 }

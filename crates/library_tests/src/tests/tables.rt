@@ -316,8 +316,8 @@ impl TableColumn for Own<'_> {
         self.inner.put_missing(row);
     }
 
-    fn put_text(&mut self, row: usize, text: CellText) {
-        self.inner.put_text(row, text);
+    fn put_text(&mut self, code: u8, row: usize, text: CellText) {
+        self.inner.put_text(code, row, text);
     }
 
     fn read(

@@ -1,48 +1,62 @@
-use Rattle.std.proofs.Common.{◌∙◌, ◌+◌, ◌-◌, ◌≡◌, ◌≢◌, ap, arith, get_or, length, sym, take}
+use Rattle.std.proofs.Common.{◌∙◌, ◌+◌, ◌-◌, ◌≡◌, ◌≢◌, ap, arith, drop, get_or, length, sym, take, true}
 use Rattle.std.proofs.lemmas.Bool.Decides.{nat_tests}
-use Rattle.lexical_tables.specs.Rows.{line_feed}
-use Rattle.lexical_tables.proofs.PassSteps.{cells_end, cells_go, no_return_at, row_is}
+use Rattle.std.proofs.lemmas.List.{drop-drop}
+use Rattle.lexical_tables.specs.Quotes.{length_outside}
+use Rattle.lexical_tables.specs.Rows.{carriage_return, line_feed, takes_returns}
+use Rattle.lexical_tables.proofs.PassSteps.{cells_end, cells_go, line_behind, no_return_at, row_goes, row_is}
 use Rattle.lexical_tables.proofs.next_part.next_part.Goals as goal
 
-pub returns-then-left-end-ne10-clause-cells : goal.returns-then-left-end-ne10-clause-cells
-returns-then-left-end-ne10-clause-cells c = λ start column.
+pub returns-then-left-end-ne10 : goal.returns-then-left-end-ne10
+returns-then-left-end-ne10 c =
     let d = c.args.dialect.now in
     let s = c.args.separator in
     let text = c.args.text.now in
     let left = c.args.left.now in
     let r = c.first_end-end.result in
     let other : get_or left r 0 ≢ line_feed = grind (arith, nat_tests) in
-    let found = c.first_end-end.ensures in
-    cells_go d s c.requires.marked start text left c.requires.here r found.room (found.cell other) (found.parts other)
-    (found.before other) column
+    let found = c.first_end-end.ensures in record {
+      room = found.room;
+      within = found.room;
+      few = found.few;
+      cells = λ start column. cells_go d s c.requires.marked start text left c.requires.here r found.room (found.cell other)
+          (found.parts other) (found.before other) column;
+      goes = λ not_last. row_goes d s c.requires.marked 0 text left c.requires.here r found.room (found.cell other)
+          (found.parts other) (found.before other) (found.behind other);
+      row = λ last. absurd cc;
+      line = λ last. absurd cc;
+      ends = found.left;
+    }
 
-pub returns-clause-cells : goal.returns-clause-cells
-returns-clause-cells c = λ start column.
+pub returns : goal.returns
+returns c =
     let d = c.args.dialect.now in
+    let s = c.args.separator in
     let text = c.args.text.now in
     let left = c.args.left.now in
     let r = c.first_end-end.result in
+    let size = c.last_size-size.result in
     let is : get_or left r 0 ≡ line_feed = grind (arith, nat_tests) in
     let found = c.first_end-end.ensures in
     let sized = c.last_size-size.ensures in
     let takes = c.takes_returns.ensures in
-    cells_end d c.args.separator c.requires.marked start text left c.requires.here r c.last_size-size.result found.room
-    (found.line is) sized.within (λ none. sized.cell (takes ∙ none)) (λ may. sized.bare (takes ∙ may))
-    (λ other. let less = sized.returned other in (less.0, less.1, sym takes ∙ less.2)) (found.last is) column
-
-pub returns-clause-row : goal.returns-clause-row
-returns-clause-row c = λ last start.
-    let d = c.args.dialect.now in
-    let text = c.args.text.now in
-    let left = c.args.left.now in
-    let r = c.first_end-end.result in
-    let is : get_or left r 0 ≡ line_feed = grind (arith, nat_tests) in
-    let found = c.first_end-end.ensures in
-    let sized = c.last_size-size.ensures in
-    let takes = c.takes_returns.ensures in
-    ap (λ t. record { start = start; text = take (length text - length left + c.last_size-size.result) text; lacks_return = t })
-    (no_return_at d left r c.last_size-size.result is
-    (λ other. let less = sized.returned other in (less.0, less.1, sym takes ∙ less.2)))
-    ∙ row_is d c.args.separator c.requires.marked start text left c.requires.here r c.last_size-size.result found.room
-    (found.line is) sized.within (λ none. sized.cell (takes ∙ none)) (λ may. sized.bare (takes ∙ may))
-    (λ other. let less = sized.returned other in (less.0, less.1, sym takes ∙ less.2))
+    let returned : size ≢ r → (size + 1 ≡ r) × (get_or left size 0 ≡ carriage_return) × (takes_returns d ≡ true) =
+    λ other. let less = sized.returned other in (less.0, less.1, sym takes ∙ less.2) in
+    let at : length text - length left + (r + 1) ≡ length_outside d.has_quotes line_feed text + 1 =
+    omega (arith, c.requires.here.line, found.line is) in record {
+      room = omega (arith, found.room, sized.within);
+      within = found.room;
+      few = found.few;
+      cells = λ start column. cells_end d s c.requires.marked start text left c.requires.here r size found.room
+          (found.line is) sized.within (λ none. sized.cell (takes ∙ none)) (λ may. sized.bare (takes ∙ may))
+          returned (found.last is) column;
+      goes = λ not_last. absurd cc;
+      row = λ last start.
+          ap (λ t. record { start = start; text = take (length text - length left + size) text; lacks_return = t })
+          (no_return_at d left r size is returned)
+          ∙ row_is d s c.requires.marked start text left c.requires.here r size found.room
+          (found.line is) sized.within (λ none. sized.cell (takes ∙ none)) (λ may. sized.bare (takes ∙ may)) returned;
+      line = λ last.
+          ap (drop (r + 1)) c.requires.here.tail ∙ drop-drop (r + 1) (length text - length left) text
+          ∙ ap (λ k. drop k text) at ∙ sym (line_behind d s c.requires.marked 0 text);
+      ends = found.left;
+    }

@@ -10,7 +10,7 @@ returns-then-not-lacks_return-clause-fault c =
     let row = first_row c.args.dialect.now c.args.start c.args.text.now in
     c.requires.fine
     ∙ end_fine c.args.columns c.args.index c.args.read.column row (grind (arith, nat_tests))
-    (sym (ap (λ r. r.lacks_return) (c.requires.part.row c.args.start)) ∙ sym c.lacks_return-lacks_return.ensures
+    (sym (ap (λ r. r.lacks_return) (c.requires.part.row c.requires.last c.args.start)) ∙ sym c.lacks_return-lacks_return.ensures
     ∙ (grind (arith, nat_tests)))
 
 pub returns-clause-fault : goal.returns-clause-fault
@@ -20,4 +20,4 @@ returns-clause-fault c =
     c.put_end_fault.ensures
     ∙ ap (λ t. end_fault c.args.columns c.args.index (record { start = c.args.start; text = take size text; lacks_return = t })
     c.args.read.column None) c.lacks_return-lacks_return.ensures
-    ∙ ap (λ r. end_fault c.args.columns c.args.index r c.args.read.column None) (c.requires.part.row c.args.start)
+    ∙ ap (λ r. end_fault c.args.columns c.args.index r c.args.read.column None) (c.requires.part.row c.requires.last c.args.start)

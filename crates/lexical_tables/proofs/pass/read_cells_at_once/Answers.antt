@@ -58,7 +58,7 @@ loop-column-preserved g c =
     let more : column < count_in d = grind (arith, nat_tests) in (
       subst (IsOnRow d c.args.separator text) (sym behind.ensures.text) (part.ensures.goes c.if-part.false),
       subst (λ l. AreEnds d.has_quotes c.args.separator l behind.result.marks) (sym behind.ensures.text)
-          (subst (AreEnds d.has_quotes c.args.separator (drop (part.result.end + 1) left)) (sym behind.ensures.marks) part.ensures.marks),
+          (subst (AreEnds d.has_quotes c.args.separator (drop (part.result.end + 1) left)) (sym behind.ensures.marks) part.ensures.ends),
       subst (AreCodes d c.args.codes.now) (sym (found.targets refl 0))
           (codes_put d c.args.codes.now c.args.index column (answer_at d (kinds_of before) column first) before c.loop-column.invariant.2),
       subst (AreUsable (c.args.index + 1)) (sym (found.targets refl 0))

@@ -204,7 +204,7 @@ loop-read-preserved g c =
     ∙ ap (λ l. cell ∷ cells_behind d row (column + 1) (length text - length l)) (sym behind.ensures.text) in (
       subst (IsOnRow d c.args.separator text) (sym behind.ensures.text) (part.ensures.goes c.if-part.false),
       subst (λ l. AreEnds d.has_quotes c.args.separator l behind.result.marks) (sym behind.ensures.text)
-          (subst (AreEnds d.has_quotes c.args.separator (drop (part.result.end + 1) left)) (sym behind.ensures.marks) part.ensures.marks),
+          (subst (AreEnds d.has_quotes c.args.separator (drop (part.result.end + 1) left)) (sym behind.ensures.marks) part.ensures.ends),
       subst (AreCodes d c.args.codes.now) (sym c.read_left_cell.ensures.targets)
           (codes_put d c.args.codes.now c.args.index column (answer_at d (kinds_of before) column cell) before read.ensures.codes),
       c.read_left_cell.ensures.fault ∙ ap (option_map (wrong_cell c.args.index column)) (sym fine),

@@ -11,8 +11,8 @@ put_presence-requires c = record {
       (target_of c.put_place.new.self) c.requires.usable c.put_place.ensures;
 }
 
-pub returns-then-is_text-clause-text : goal.returns-then-is_text-clause-text
-returns-then-is_text-clause-text c = λ texts.
+pub returns-then-code-eq-TEXTS-clause-text : goal.returns-then-code-eq-TEXTS-clause-text
+returns-then-code-eq-TEXTS-clause-text c = λ texts.
     text_put c.args.row (view_of_text c.args.text) (target_of c.args.self.now) (target_of c.put_place.new.self)
     (target_of c.put_presence.new.self)
     (c.put_place.ensures

@@ -1,4 +1,4 @@
-use Rattle.std.proofs.Common.{◌+◌, ◌∙◌, false, sym}
+use Rattle.std.proofs.Common.{◌+◌, ◌∙◌, refl, sym}
 use Rattle.lexical_fields.specs.Fields.{FieldView}
 use Rattle.jadvolni.specs.Tables.{target_of}
 use Rattle.jadvolni.proofs.TableBits.{no_fault, number_failed, number_read, number_usable, whole_put}
@@ -13,7 +13,7 @@ pub returns-then-is_text-clause-target : goal.returns-then-is_text-clause-target
 returns-then-is_text-clause-target c =
     let text : FieldView = record { start = c.args.start; text = c.args.text.now } in
     let before = target_of c.args.self.now in
-    c.put_text.ensures.text (sym c.is_text.ensures ∙ c.if-is_text.true)
+    c.put_whole_text.ensures
     ∙ whole_put c.args.row text before (sym c.is_text.ensures ∙ c.if-is_text.true)
 
 pub returns-in-Some-clause-target : goal.returns-in-Some-clause-target
