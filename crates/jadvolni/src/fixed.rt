@@ -80,7 +80,8 @@ impl FixedFields {
         kept.are_known()
     }
 
-    // The status of the format of integers, or of the description of numbers that have places.
+    // The status of the format of integers, or of the description of numbers that have places. The standard format, as most
+    // columns have it, isn't asked for each of its rules.
     pub(crate) fn number_status(&self) -> u32
         ensures { result ≡ number_status self.now }
     {
@@ -88,6 +89,9 @@ impl FixedFields {
             return UNKNOWN_FIELD;
         }
         if self.places == 0 {
+            if self.integer.is_standard() {
+                return 0;
+            }
             return self.integer.status();
         }
         self.description_status()
