@@ -1,12 +1,13 @@
 -- A cell whose quotes are in place, since it has none, or quotes have no meaning.
-use Rattle.std.proofs.Common.{◌≡◌, ◌≢◌, ◌∙◌, ℕ, ◌+◌, ◌<◌, ◌==◌, Bool, true, false, cond, List, [], ◌∷◌, length, drop, get_or, Some, None, refl, ap, sym, arith, inl, inr}
+use Rattle.std.proofs.Common.{◌≡◌, ◌≢◌, ◌∙◌, ℕ, ◌+◌, ◌<◌, ◌==◌, ◌&&◌, Bool, true, false, cond, List, [], ◌∷◌, length, drop, get_or, Option, Some, None, refl, ap, sym, arith, inl, inr}
 use Rattle.std.proofs.lemmas.Bool.{and_right, eqb-true, le-ltb}
 use Rattle.std.proofs.lemmas.List.Sums.{position_or_len_is}
-use Rattle.std.specs.Prelude.{nat_lt, option_map}
+use Rattle.std.specs.Prelude.{is_some, nat_lt, option_map}
 use Rattle.lexical_fields.specs.Fields.{FieldView}
 use Rattle.lexical_fields.proofs.FieldsInParts.{either}
-use Rattle.lexical_tables.specs.Cells.{begins_with_quote, fault_round_number, fault_round_text, first_quote, quote_fault}
+use Rattle.lexical_tables.specs.Cells.{begins_with_quote, content, fault_round_number, fault_round_text, first_quote, quote_fault, within_quotes}
 use Rattle.lexical_tables.specs.Quotes.{quote}
+use Rattle.lexical_tables.specs.declared.answers.CellFault.{CellFault}
 use Rattle.lexical_tables.specs.declared.answers.CellFault.TheVariants.{MisplacedQuote}
 use Rattle.lexical_tables.specs.declared.dialect.Dialect.{Dialect}
 
@@ -45,3 +46,26 @@ unquoted_fault true is_read cell none =
     (cond t (cond is_read (fault_round_number (length cell.text) (first_quote (drop 1 cell.text))) (fault_round_text cell.text))
     (first_quote cell.text))) (begins_unquoted cell.text none)
     ∙ ap (option_map (λ place. MisplacedQuote (cell.start + place))) (no_quote_first cell.text none))
+
+-- a place that isn't told is none
+no_place : (f : ℕ → CellFault) (place : Option ℕ) → option_map f place ≡ None → is_some place ≡ false
+no_place f None none = refl
+no_place f (Some place) none = absurd cc
+
+-- Where a cell's quotes are in place, only one that begins with a quote holds others.
+pub doubled_is : (q : Bool) (cell held : FieldView) → quote_fault q false cell ≡ None → held ≡ content q false cell
+    → ((q && begins_with_quote cell.text) && is_some (first_quote held.text)) ≡ (q && is_some (first_quote held.text))
+doubled_is false cell held fine is = refl
+doubled_is true cell held fine is = by_quote (begins_with_quote cell.text) refl
+  where
+    by_quote : (begins : Bool) → begins_with_quote cell.text ≡ begins
+        → (begins_with_quote cell.text && is_some (first_quote held.text)) ≡ is_some (first_quote held.text)
+    by_quote true begins = ap (λ t. t && is_some (first_quote held.text)) begins
+    by_quote false begins =
+        let same : held ≡ cell = is ∙ ap (λ t. cond t (within_quotes cell) cell) begins in
+        let told : option_map (λ place. MisplacedQuote (cell.start + place)) (first_quote cell.text) ≡ None =
+        sym (ap (λ t. option_map (λ place. MisplacedQuote (cell.start + place))
+        (cond t (fault_round_text cell.text) (first_quote cell.text))) begins) ∙ fine in
+        ap (λ t. t && is_some (first_quote held.text)) begins
+        ∙ sym (ap (λ h. is_some (first_quote h.text)) same
+        ∙ no_place (λ place. MisplacedQuote (cell.start + place)) (first_quote cell.text) told)

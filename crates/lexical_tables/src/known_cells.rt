@@ -45,7 +45,7 @@ pub(crate) fn read_text<C: TableColumn>(
     if is_missing {
         target.put_missing(row);
     } else {
-        target.put_text(TEXTS, row, text_of(held, dialect.has_quotes));
+        target.put_text(TEXTS, row, text_of(cell, held, dialect.has_quotes));
     }
     true
 }
