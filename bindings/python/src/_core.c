@@ -27,18 +27,10 @@ static int question_of(PyObject *module, const char *call, PyObject *const *args
 /* The number of a text within bounds. */
 static PyObject *bounded(const core_state *state, const question *asked, PyObject *const *given)
 {
-    number value;
     bounds between;
     PyObject *result = NULL;
-    if (bounds_of(given[0], given[1], &between) == 0) {
-        const borrowed_text *text = &asked->text;
-        const notation *written = &asked->written;
-        jadvolni_result answer = whole_number(text, written->type, written, &value);
-        if (answer.status == JADVOLNI_OK)
-            result = within(state, written->type->number(&value), &between);
-        else if (!raise_beyond(state, answer, text, written, &between))
-            raise_fault(state, answer, text->bytes, text->len, NULL);
-    }
+    if (bounds_of(given[0], given[1], &between) == 0)
+        result = number_within(state, &asked->text, &asked->written, &between);
     let_go_bounds(&between);
     return result;
 }

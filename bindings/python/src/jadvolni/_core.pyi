@@ -40,6 +40,9 @@ class ParseError(ValueError):
     # The column's name, as the caller has it, and the first bytes of the cell.
     name: Any
     text: Any
+    # Ints of a number that is out of bounds, and else None.
+    min: Any
+    max: Any
 
 class FormatError(ValueError):
     kind: str
