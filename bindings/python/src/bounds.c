@@ -49,6 +49,9 @@ static int is_within(PyObject *value, const bounds *asked)
 
 /* ---- the fault of a text whose number is out of bounds ---- */
 
+/* A byte is shown by up to four characters, and behind them stands a NUL. */
+enum { SHOWN_BYTE = 5 };
+
 /* The least or the greatest number of a type, of which all bits but the highest are alike. */
 static PyObject *end_of(const number_type *type, int is_greatest)
 {
@@ -73,6 +76,13 @@ static PyObject *bound_within(const number_type *type, PyObject *asked, int is_g
     return is_narrower > 0 ? Py_NewRef(asked) : NULL;
 }
 
+/* Puts a byte, or its number where it isn't printable ASCII, as a string: how many characters that are. */
+static int put_shown(char *to, unsigned char byte)
+{
+    int is_printable = byte >= ' ' && byte < 0x7F;
+    return snprintf(to, SHOWN_BYTE, is_printable ? "%c" : "\\x%02x", byte);
+}
+
 /* A bound as texts have it: that of amounts has a point. */
 static PyObject *shown_bound(PyObject *bound, const notation *written)
 {
@@ -88,8 +98,9 @@ static PyObject *shown_bound(PyObject *bound, const notation *written)
     Py_ssize_t size = PyUnicode_GetLength(padded);
     PyObject *whole = PyUnicode_Substring(padded, 0, size - places);
     PyObject *rest = whole ? PyUnicode_Substring(padded, size - places, size) : NULL;
-    int point = written->fixed.point ? written->fixed.point : '.';
-    PyObject *shown = rest ? PyUnicode_FromFormat("%U%c%U", whole, point, rest) : NULL;
+    char point[SHOWN_BYTE];
+    put_shown(point, written->fixed.point ? written->fixed.point : '.');
+    PyObject *shown = rest ? PyUnicode_FromFormat("%U%s%U", whole, point, rest) : NULL;
     Py_XDECREF(rest);
     Py_XDECREF(whole);
     Py_DECREF(padded);
@@ -99,14 +110,11 @@ static PyObject *shown_bound(PyObject *bound, const notation *written)
 /* The front of a text, in which bytes that aren't printable ASCII are told by their numbers. */
 static PyObject *shown_front(const borrowed_text *text)
 {
-    enum { MOST = 40 };
-    char shown[4 * MOST + 1] = "";
+    enum { MOST = 40 }; /* so many bytes are told */
+    char shown[MOST * SHOWN_BYTE] = "";
     int size = 0;
-    for (size_t k = 0; k < text->len && k < MOST; k++) {
-        unsigned char byte = (unsigned char)text->bytes[k];
-        int is_printable = byte >= ' ' && byte < 0x7F;
-        size += snprintf(shown + size, 5, is_printable ? "%c" : "\\x%02x", byte);
-    }
+    for (size_t k = 0; k < text->len && k < MOST; k++)
+        size += put_shown(shown + size, (unsigned char)text->bytes[k]);
     return PyUnicode_FromFormat("%s%s", shown, text->len > MOST ? ".." : "");
 }
 

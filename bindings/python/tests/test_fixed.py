@@ -166,6 +166,9 @@ class FixedPoint(unittest.TestCase):
         ):
             with self.assertRaisesRegex(ParseError, f"^{message}$"):
                 parse(text, Fixed("i8", places=places, point=",", takes_fewer=True), max=5)
+        with self.assertRaises(ParseError) as told:
+            parse(b"1\xff2", Fixed("u8", places=1, point=b"\xff"), max=5)
+        self.assertEqual(str(told.exception), r"1\xff2 is not from 0\xff0 to 0\xff5")
         self.fault("InvalidDigit", 5, parse, "12.505", CENTS, max=5)
 
     def test_descriptions_that_break_a_rule(self):
