@@ -1,5 +1,6 @@
 // The rows of a text, which go through memory piece by piece.
 
+import { cellOfColumn } from "./cells.js";
 import { endOfRow } from "./header.js";
 import { putTable, rightRows, rowsBeforeFault } from "./layout.js";
 import * as memory from "./memory.js";
@@ -47,7 +48,8 @@ function readPiece(bytes, start, most, reads, how) {
   const size = memory.putBytes(bytes.subarray(start, start + most));
   const isLast = Number(start + size === bytes.length);
   const found = how.skips ? rightRows(size, isLast, laid) : rowsBeforeFault(size, isLast, laid);
-  return { ...found, arrays: laid.arrays };
+  const bad = found.bad.map((it) => ({ ...it, cell: cellOfColumn(it.start, size, it.column) }));
+  return { ...found, bad, arrays: laid.arrays };
 }
 
 /** Reads the rows of the next piece. One of more bytes than a window is a piece by itself. */
@@ -57,6 +59,14 @@ function readNext(bytes, start, reads, how) {
   const size = endOfRow(bytes.subarray(0, start + PIECE + 1), start, how).stop - start;
   if (size > PIECE) throw longRow(bytes, start, how, `the ${how.unit} at byte ${start}`);
   return readPiece(bytes, start, size, reads, how);
+}
+
+/** A bad row of a piece as one of the text, in which so many rows and bytes stand before the piece. */
+function behind({ status, row, column, place, start, cell }, rows, bytes) {
+  return {
+    status, row: rows + row, column, place: bytes + place, start: bytes + start,
+    cell: cell && { start: bytes + cell.start, size: cell.size },
+  };
 }
 
 /**
@@ -69,8 +79,7 @@ export function readRows(bytes, first, reads, how, errorOf) {
   let [start, row, badRows] = [first, 0, 0];
   while (start < length) {
     const { arrays, bad, badCount, count, place } = readNext(bytes, start, reads, how);
-    const errors = bad.map((it) =>
-      errorOf({ ...it, row: row + it.row, place: start + it.place, start: start + it.start }));
+    const errors = bad.map((it) => errorOf(behind(it, row, start)));
     if (!how.skips && errors.length > 0) throw errors[0];
     arrays.forEach((array, index) => array && parts[index].push(partOf(array, reads[index], count, start)));
     start += place;
