@@ -30,8 +30,6 @@ export type TypedLiteral<T extends NumberType = NumberType> = {
  * Throws `ParseError` of the kind "InvalidDigit" at a digit 0 to 9 directly behind the number, as in "0b102",
  * "UnknownSuffix" where a suffix begins that isn't there, as in "12abc", and "Overflow" at the digit with which the
  * number leaves its type, as in "300u8". A literal has no minus: "-128i8" is "Empty" at 0.
- *
- * Freeze an object that many calls are given: it is then read once.
  */
 export function parseTypedLiteral<T extends NumberType>(
   text: Text,

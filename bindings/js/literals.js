@@ -43,15 +43,22 @@ function tableOf(suffixes) {
   return { entries, bytes, place };
 }
 
-// Those of frozen objects.
+// The tables that were made, by what they were made of.
 const tables = new WeakMap();
 
-/** The same, which is made once for a frozen object. */
+/** Whether an object still has the entries that it had. */
+function isSame(suffixes, entries) {
+  const names = Object.keys(suffixes);
+  return names.length === entries.length &&
+    entries.every(([suffix, type], index) => names[index] === suffix && suffixes[suffix] === type);
+}
+
+/** The same, which is made once for an object that doesn't change. */
 function tableFor(suffixes) {
   const known = tables.get(suffixes);
-  if (known !== undefined) return known;
+  if (known !== undefined && isSame(suffixes, known.entries)) return known;
   const table = tableOf(suffixes);
-  if (Object.isFrozen(suffixes)) tables.set(suffixes, table);
+  tables.set(suffixes, table);
   return table;
 }
 

@@ -58,15 +58,23 @@ test("a fault is at the digit or the suffix that is wrong", () => {
   assert.equal(told(() => parseTypedLiteral("12", { "": "u8" }, new Format({ mantissa_radix: 2 }))), "InvalidDigit(1)");
 });
 
-test("an object that changes is read anew, and a frozen one once", () => {
+test("an object that changes between calls is read anew", () => {
   const changing = { u: "u8" };
-  assert.equal(parseTypedLiteral("1u", changing).type, "u8");
+  const typeOf = (text, table = changing) => told(() => parseTypedLiteral(text, table).type);
+  assert.equal(typeOf("1u"), "u8");
   changing.u = "u16";
-  assert.equal(parseTypedLiteral("1u", changing).type, "u16");
-  const frozen = Object.freeze({ u: "i8", long: "u32" });
-  for (const [text, table, type] of [["1u", frozen, "i8"], ["1u", changing, "u16"], ["1long", frozen, "u32"]]) {
-    for (let time = 0; time < 3; time++) assert.equal(parseTypedLiteral(text, table).type, type);
-  }
+  assert.equal(typeOf("1u"), "u16");
+  changing.U = "u32";
+  assert.deepEqual([typeOf("1u"), typeOf("1U")], ["u16", "u32"]);
+  delete changing.u;
+  assert.deepEqual([typeOf("1u"), typeOf("1U")], ["UnknownSuffix(1)", "u32"]);
+  changing.x = "u8";
+  delete changing.U;
+  assert.deepEqual([typeOf("1U"), typeOf("1x")], ["UnknownSuffix(1)", "u8"]);
+  changing.x = "u9";
+  assert.throws(() => typeOf("1x"), TypeError);
+  const other = Object.freeze({ u: "i8", long: "u32" });
+  for (let time = 0; time < 3; time++) assert.deepEqual([typeOf("1u", other), typeOf("1long", other)], ["i8", "u32"]);
 });
 
 test("each number with each suffix, before any byte", () => {
