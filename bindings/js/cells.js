@@ -12,12 +12,12 @@ const WORDS_OF_CELL = 4;
 const oneCell = memory.numberAs(Uint32Array, WORDS_OF_CELL);
 
 /**
- * How many cells the row has that starts at a place in so many bytes of text, under the table that was put last. Where
- * those from a column on are goes to an array, as far as it has room.
+ * How many cells the row has that starts at a place of the text, under the table that was put last, and stops at another.
+ * Where those from a column on are goes to an array, as far as it has room.
  */
-function putCells(start, size, first, cells) {
+function putCells(start, stop, first, cells) {
   const room = BigInt(cells.length / WORDS_OF_CELL);
-  rowCells(ANSWER, TEXT + BigInt(start), BigInt(size - start), TABLE, BigInt(first), BigInt(cells.byteOffset), room);
+  rowCells(ANSWER, TEXT + BigInt(start), BigInt(stop - start), TABLE, BigInt(first), BigInt(cells.byteOffset), room);
   return answer[2];
 }
 
@@ -27,15 +27,14 @@ const cellAt = (words, index, start) => ({
   size: words[WORDS_OF_CELL * index + 2],
 });
 
-/** Where the cell of a column is, of the row that starts at a place in so many bytes of the text that was read last;
- * undefined where the row has none. */
-export function cellOfColumn(start, size, column) {
-  return putCells(start, size, column, oneCell) > column ? cellAt(oneCell, 0, start) : undefined;
+/** Where the cell of a column is, of the row from a place to another in the piece that was read last, before which so
+ * many bytes stand; undefined where the row has none. */
+export function cellOfColumn(start, stop, column, before) {
+  return putCells(start, stop, column, oneCell) > column ? cellAt(oneCell, 0, before + start) : undefined;
 }
 
-/** Whether a row, with what ends it, is an empty one that its table skips. */
-export function isSkipped(row, how) {
-  putTableAlone(how);
+/** Whether a row, with what ends it, is an empty one that is skipped by the table that was put last. */
+export function isSkipped(row) {
   const size = memory.putBytes(row);
   rowPlace(ANSWER, TEXT, BigInt(size), TABLE, 0n);
   return answer[2] === size;

@@ -3,6 +3,7 @@
 import { told } from "./arguments.js";
 import { cellCount, cellsOf, isSkipped } from "./cells.js";
 import { HeaderError } from "./errors.js";
+import { putTableAlone } from "./layout.js";
 
 export const LINE_FEED = 0x0a;
 const QUOTE = 0x22;
@@ -48,11 +49,12 @@ function nameOf(cell, { has_quotes, allows_blanks }) {
  * from a place to another is too long. */
 function firstRow(bytes, how, ask) {
   let start = BYTE_ORDER_MARK.every((byte, place) => bytes[place] === byte) ? 3 : 0;
+  putTableAlone(how);
   for (;;) {
     const { stop } = endOfRow(bytes, start, how);
     if (start === stop) throw new HeaderError("NoHeader", "the table has no header", []);
     ask(start, stop);
-    if (!isSkipped(bytes.subarray(start, stop), how)) return { start, stop };
+    if (!how.skips_empty_rows || !isSkipped(bytes.subarray(start, stop))) return { start, stop };
     start = stop;
   }
 }

@@ -53,6 +53,9 @@ function rowsOf(reads, missing, bad) {
 function arraysFrom(place) {
   let next = place;
   return (NumberArray, length) => {
+    if (length * NumberArray.BYTES_PER_ELEMENT > memory.buffer.byteLength - next) {
+      throw new RangeError("the table is more than there is memory for");
+    }
     const array = new NumberArray(memory.buffer, next, length);
     next += Math.ceil(array.byteLength / 8) * 8;
     return array;
@@ -114,13 +117,13 @@ export function rowsBeforeFault(size, isLast, { rows, count }) {
   const [status, , column, , row, , place] = answer;
   if (status === 0) return { count: row, place, badCount: 0, bad: [] };
   rowPlace(ANSWER, TEXT, length, TABLE, BigInt(row));
-  return { count: row, place, badCount: 1, bad: [{ status, row, column, place, start: answer[2] }] };
+  return { count: row, place, badCount: 1, bad: [{ status, row, column, place, start: answer[2], stop: answer[4] }] };
 }
 
 /** What is known of a bad row that a call has told. */
 function badRowAt(words, index) {
-  const [status, , , , , , row, , column, , place, , start] = words.subarray(WORDS_OF_BAD_ROW * index);
-  return { status, row, column, place, start };
+  const [status, , , , , , row, , column, , place, , start, , stop] = words.subarray(WORDS_OF_BAD_ROW * index);
+  return { status, row, column, place, start, stop };
 }
 
 /** The same of the right rows of so many bytes of text, and of the bad ones, as far as there is room. */

@@ -48,8 +48,7 @@ function readPiece(bytes, start, most, reads, how) {
   const size = memory.putBytes(bytes.subarray(start, start + most));
   const isLast = Number(start + size === bytes.length);
   const found = how.skips ? rightRows(size, isLast, laid) : rowsBeforeFault(size, isLast, laid);
-  const bad = found.bad.map((it) => ({ ...it, cell: cellOfColumn(it.start, size, it.column) }));
-  return { ...found, bad, arrays: laid.arrays };
+  return { ...found, arrays: laid.arrays };
 }
 
 /** Reads the rows of the next piece. One of more bytes than a window is a piece by itself. */
@@ -61,12 +60,10 @@ function readNext(bytes, start, reads, how) {
   return readPiece(bytes, start, size, reads, how);
 }
 
-/** A bad row of a piece as one of the text, in which so many rows and bytes stand before the piece. */
-function behind({ status, row, column, place, start, cell }, rows, bytes) {
-  return {
-    status, row: rows + row, column, place: bytes + place, start: bytes + start,
-    cell: cell && { start: bytes + cell.start, size: cell.size },
-  };
+/** A bad row of the piece that was read last as one of the text, in which so many rows and bytes stand before it. */
+function badRowOf({ status, row, column, place, start, stop }, rows, bytes) {
+  const cell = cellOfColumn(start, stop, column, bytes);
+  return { status, row: rows + row, column, place: bytes + place, start: bytes + start, cell };
 }
 
 /**
@@ -79,7 +76,7 @@ export function readRows(bytes, first, reads, how, errorOf) {
   let [start, row, badRows] = [first, 0, 0];
   while (start < length) {
     const { arrays, bad, badCount, count, place } = readNext(bytes, start, reads, how);
-    const errors = bad.map((it) => errorOf(behind(it, row, start)));
+    const errors = bad.map((it) => errorOf(badRowOf(it, row, start)));
     if (!how.skips && errors.length > 0) throw errors[0];
     arrays.forEach((array, index) => array && parts[index].push(partOf(array, reads[index], count, start)));
     start += place;

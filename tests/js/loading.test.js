@@ -68,8 +68,9 @@ test("a module whose tables have another layout is told", async () => {
     ['"is_records", "allows_returns"', '"allows_returns", "is_records"'],
     ["tablePlace + 48", "tablePlace + 40"], ["[status, , column, , row,", "[status, , row, , column,"],
     ["WORDS_OF_BAD_ROW = 16", "WORDS_OF_BAD_ROW = 12"],
-    ["row, , column, , place, , start]", "column, , row, , place, , start]"],
-    [", , place, , start]", ", , start, , place]"],
+    ["row, , column, , place, , start, , stop]", "column, , row, , place, , start, , stop]"],
+    [", , place, , start, , stop]", ", , start, , place, , stop]"],
+    ["start, , stop]", "stop, , start]"],
     ["[status, , , , right, , badCount,", "[status, , , , badCount, , right,"],
   ];
   const texts = [
