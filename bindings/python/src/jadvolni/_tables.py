@@ -131,7 +131,7 @@ def parse_table(
 
     header: the first line has the names of the columns. Those of `columns` choose among them, in
     any order, and no other is read; ValueError tells of one that is missing or stands twice. A byte
-    order mark may stand before the header.
+    order mark may stand before the header, and empty rows that are skipped.
 
     has_returns: a return stands before each line feed. allows_returns: one may stand there, so that
     each row may end either way; any other is a byte of its cell. has_quotes: a cell may stand
