@@ -208,6 +208,7 @@ static PyMethodDef METHODS[] = {
     {"_text_size", text_size, METH_O, "How many bytes a text has."},
     {"_move_bits", move_bits, METH_VARARGS, "Puts bits behind those before a place."},
     {"_row_cells", row_cells, METH_VARARGS, "The cells of a row."},
+    {"_text_list", text_list, METH_VARARGS, "The texts of a column, or None where their places are none."},
     {"_row_ends", row_ends, METH_VARARGS, "Where the first and the last row end in a text."},
     {"_arrow_schema", arrow_schema_of, METH_VARARGS, "What Arrow calls a table or a column."},
     {"_arrow_array", arrow_array_of, METH_VARARGS, "A table or a column for Arrow."},

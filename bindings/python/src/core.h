@@ -235,6 +235,9 @@ int ask_apart(const Py_buffer *rooms, Py_ssize_t count, const borrowed_text *tex
 int put_texts(PyObject *bytes, const char *text, const jadvolni_cell_text *cells, size_t count,
               int64_t *sizes);
 
+/* _text_list(data, offsets, bits, count, is_utf8) */
+PyObject *text_list(PyObject *module, PyObject *args);
+
 /* ---- arrow.c ---- */
 
 /* Capsules for Arrow, of a table or of its one column: _arrow_schema(columns, is_table),
