@@ -153,8 +153,8 @@ static int is_beyond(uint32_t status)
     return status == JADVOLNI_OVERFLOW || status == JADVOLNI_UNDERFLOW;
 }
 
-/* What else is wrong with a text than that its type, which answers so, lacks its number; JADVOLNI_OK where that is all.
- * The widest type with a sign tells, in which "-5" and "70000" are numbers. */
+/* What else is wrong with a text than that its type, which answers so, lacks its number; JADVOLNI_OK where
+ * that is all. The widest type with a sign tells, in which "-5" and "70000" are numbers. */
 static jadvolni_result fault_beside_bounds(const borrowed_text *text, const notation *written,
                                            jadvolni_result answer)
 {

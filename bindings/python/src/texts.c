@@ -56,7 +56,8 @@ typedef struct text_array {
     int is_utf8;
 } text_array;
 
-/* A text, None where it is missing. NULL with an exception, or without one where its place isn't in the bytes. */
+/* A text, None where it is missing. NULL with an exception, or without one where its place isn't in the
+ * bytes. */
 static PyObject *text_at(const text_array *all, Py_ssize_t row)
 {
     const uint8_t *bits = all->bits.buf;
