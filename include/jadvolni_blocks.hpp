@@ -218,7 +218,7 @@ public:
             pass(row.size());
             if (trouble || (trouble = fill_row())) return {{}, place_of(trouble), trouble};
             row = {bytes_ + first_, is_last_ && !ends() ? stop_ - first_ : ends_.stop()};
-        } while (how_.skips_empty_rows && !row.empty() && detail::content_of_row(row, how_).empty());
+        } while (detail::is_skipped(row, how_));
         header_row header(row, before_ + first_, nullptr);
         pass(row.size());
         return header;

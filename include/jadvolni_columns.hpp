@@ -181,7 +181,7 @@ private:
         if (text.substr(0, 3) == "\xEF\xBB\xBF") place_ = 3;
         for (;;) {
             auto row = detail::first_row(text.substr(place_), how_);
-            if (row.empty() || !how_.skips_empty_rows || !detail::content_of_row(row, how_).empty()) return row;
+            if (!detail::is_skipped(row, how_)) return row;
             place_ += row.size();
         }
     }
@@ -195,7 +195,7 @@ private:
         auto judged = detail::read_table(row, true, how_, 1, unread.data(), unread.size());
         place_ += judged.place();
         if (!judged) return fail(std::string("the header is no row: ") + judged.message()), false;
-        for (auto cell : cells) names_.push_back(name_of(detail::cell_of(row, cell, how_)));
+        for (auto cell : cells) names_.push_back(name_of(detail::cell_of(row, cell)));
         return true;
     }
 

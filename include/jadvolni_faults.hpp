@@ -67,14 +67,10 @@ inline std::string_view first_row(std::string_view text, const table &how) noexc
     return ends.ends_in(text.data(), text.size()) ? text.substr(0, ends.stop()) : text;
 }
 
-// A row without what ends it.
-inline std::string_view content_of_row(std::string_view row, const table &how) noexcept
+// Whether a row, with what ends it, is an empty one that its table skips.
+inline bool is_skipped(std::string_view row, const table &how) noexcept
 {
-    if (how.is_records || row.empty() || row.back() != '\n') return row;
-    row.remove_suffix(1);
-    const bool takes_returns = how.has_returns || how.allows_returns;
-    if (takes_returns && !row.empty() && row.back() == '\r') row.remove_suffix(1);
-    return row;
+    return !row.empty() && jadvolni_row_place(row.data(), row.size(), &how, 0).start == row.size();
 }
 
 // How many cells a row has. Where those from a column on are goes to an array, as far as it has room.
@@ -84,11 +80,10 @@ inline std::size_t put_cells(std::string_view row, const table &how, std::size_t
     return jadvolni_row_cells(row.data(), row.size(), &how, first, cells, room).count;
 }
 
-// The bytes of a cell of a row. What ends the row is none of them, also where a quote that nothing closes takes it.
-inline std::string_view cell_of(std::string_view row, jadvolni_cell_place place, const table &how) noexcept
+// The bytes of a cell of a row.
+inline std::string_view cell_of(std::string_view row, jadvolni_cell_place place) noexcept
 {
-    const auto content = content_of_row(row, how);
-    return content.substr(std::min(place.start, content.size()), place.size);
+    return row.substr(place.start, place.size);
 }
 
 // Text of no more bytes than there is room for, as C has it.
@@ -266,7 +261,7 @@ private:
     {
         jadvolni_cell_place found{};
         if (detail::put_cells(row, how, column_, &found, 1) <= column_) return;
-        const auto cell = detail::cell_of(row, found, how);
+        const auto cell = detail::cell_of(row, found);
         const auto start = row_start_ + found.start;
         if (place() < start || place() > start + cell.size()) return;
         has_cell_ = true;

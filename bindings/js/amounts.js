@@ -48,3 +48,6 @@ export function amountOf(given) {
   if (status !== 0) throw new FormatError(status);
   return amount;
 }
+
+/** How many places amounts have that are written so, and the byte that is their point. */
+export const writtenAs = (amount) => ({ point: amount[32], places: amount[33] });

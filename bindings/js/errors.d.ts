@@ -14,6 +14,9 @@ export type TextFault =
  * starts, the line feed without a return, or the quote. */
 export type TableFault = "TooFewCells" | "TooManyCells" | "MissingReturn" | "MisplacedQuote";
 
+/** What else may be wrong with a literal whose suffix names its type: the place is where the suffix begins. */
+export type LiteralFault = "UnknownSuffix";
+
 /** Which rule a format may break, or a description of amounts. */
 export type FormatFault =
   | "InvalidMantissaRadix"
@@ -43,7 +46,7 @@ export class JadvolniError extends Error {}
  */
 export class ParseError extends JadvolniError {
   /** What is wrong. */
-  readonly kind: TextFault | TableFault | "OutOfBounds";
+  readonly kind: TextFault | LiteralFault | TableFault | "OutOfBounds";
   /**
    * At which byte; the text's length where something is missing at its end. It is also the index into a
    * string that has ASCII alone before it.

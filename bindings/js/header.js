@@ -1,11 +1,12 @@
 // The header of a table: its first row, which is read by the table's own rules.
 
 import { told } from "./arguments.js";
+import { cellCount, cellsOf, isSkipped } from "./cells.js";
 import { HeaderError } from "./errors.js";
+import { putTableAlone } from "./layout.js";
 
-export const QUOTE = 0x22;
 export const LINE_FEED = 0x0a;
-export const RETURN = 0x0d;
+const QUOTE = 0x22;
 const BYTE_ORDER_MARK = [0xef, 0xbb, 0xbf];
 const decoder = new TextDecoder("utf-8", { ignoreBOM: true });
 
@@ -37,30 +38,6 @@ export function endOfRow(bytes, start, { has_quotes, recordSize }) {
   return { stop: bytes.length, open };
 }
 
-/** A row without what ends it. */
-function contentOf(row, { has_returns, allows_returns, recordSize }) {
-  if (recordSize !== undefined || row.at(-1) !== LINE_FEED) return row;
-  const line = row.subarray(0, -1);
-  return (has_returns || allows_returns) && line.at(-1) === RETURN ? line.subarray(0, -1) : line;
-}
-
-/** The cells of a row: those of the table's widths, or those between separators outside quotes. */
-function cellsOf(row, { separator, has_quotes, widths }) {
-  let start = 0;
-  if (widths.length > 0) {
-    return widths.map((width) => row.subarray(start, (start += Number(width))));
-  }
-  const cells = [];
-  let isWithin = false;
-  for (let place = 0; place < row.length; place++) {
-    if (has_quotes && separator !== QUOTE && row[place] === QUOTE) isWithin = !isWithin;
-    if (row[place] !== separator || isWithin) continue;
-    cells.push(row.subarray(start, place));
-    start = place + 1;
-  }
-  return [...cells, row.subarray(start)];
-}
-
 /** What a cell holds, without its quotes and blanks. */
 function nameOf(cell, { has_quotes, allows_blanks }) {
   const text = decoder.decode(cell.slice()); // (a copy: what is shared between threads isn't decoded)
@@ -68,27 +45,30 @@ function nameOf(cell, { has_quotes, allows_blanks }) {
   return allows_blanks ? held.replace(/^[ \t]+|[ \t]+$/g, "") : held;
 }
 
-/** The first row that the table doesn't skip, behind a byte order mark: where it starts and stops. */
-function firstRow(bytes, how) {
+/** Where the first row that the table doesn't skip starts and stops, behind a byte order mark. `ask` throws where a row
+ * from a place to another is too long. */
+function firstRow(bytes, how, ask) {
   let start = BYTE_ORDER_MARK.every((byte, place) => bytes[place] === byte) ? 3 : 0;
+  putTableAlone(how);
   for (;;) {
     const { stop } = endOfRow(bytes, start, how);
-    const content = contentOf(bytes.subarray(start, stop), how);
-    if (start === stop || !how.skips_empty_rows || content.length > 0) return { start, stop, content };
+    if (start === stop) throw new HeaderError("NoHeader", "the table has no header", []);
+    ask(start, stop);
+    if (!how.skips_empty_rows || !isSkipped(bytes.subarray(start, stop))) return { start, stop };
     start = stop;
   }
 }
 
 /**
- * The names of a text's columns, and the place behind them. `judge` throws where the row from a place to another isn't
- * one of so many columns: the library has the rules.
+ * The names of a text's columns, and the place behind them. `ask` throws where the row from a place to another is too
+ * long, and `judge` where it isn't one of so many columns: the library has the rules.
  */
-export function headerOf(bytes, how, judge) {
-  const { start, stop, content } = firstRow(bytes, how);
-  if (start === stop) throw new HeaderError("NoHeader", "the table has no header", []);
-  const cells = cellsOf(content, how);
-  judge(start, stop, cells.length);
-  return { names: cells.map((cell) => nameOf(cell, how)), stop };
+export function headerOf(bytes, how, ask, judge) {
+  const { start, stop } = firstRow(bytes, how, ask);
+  const row = bytes.subarray(start, stop);
+  const count = how.widths.length || cellCount(row, how);
+  judge(start, stop, count);
+  return { names: cellsOf(row, how, count).map((cell) => nameOf(cell, how)), stop };
 }
 
 /** Names as a message lists them. */

@@ -25,10 +25,10 @@ export const FLAGS = [
 // What is told of a bad row, as words of 32 bits.
 const WORDS_OF_BAD_ROW = 16;
 
-const ANSWER = BigInt(numbersPlace);
-const TABLE = BigInt(tablePlace);
+export const ANSWER = BigInt(numbersPlace);
+export const TABLE = BigInt(tablePlace);
 const COLUMNS = BigInt(columnsPlace);
-const answer = new Uint32Array(memory.buffer, numbersPlace, 12);
+export const answer = new Uint32Array(memory.buffer, numbersPlace, 12);
 const tableBytes = new Uint8Array(memory.buffer, tablePlace, 48);
 const tableWords = new BigUint64Array(memory.buffer, tablePlace, 6);
 
@@ -53,6 +53,9 @@ function rowsOf(reads, missing, bad) {
 function arraysFrom(place) {
   let next = place;
   return (NumberArray, length) => {
+    if (length * NumberArray.BYTES_PER_ELEMENT > memory.buffer.byteLength - next) {
+      throw new RangeError("the table is more than there is memory for");
+    }
     const array = new NumberArray(memory.buffer, next, length);
     next += Math.ceil(array.byteLength / 8) * 8;
     return array;
@@ -72,14 +75,8 @@ function putColumn(words, read, rows, take) {
   return { numbers, bits };
 }
 
-/**
- * Puts a table and its columns where calls find them: the arrays of each, how many rows there is room
- * for, and room to tell so many bad rows.
- */
-export function putTable({ bytes, missing, widths }, reads, bad) {
-  const rows = rowsOf(reads, missing, bad);
-  const take = arraysFrom(columnsPlace);
-  const columns = reads.map(() => take(BigUint64Array, WORDS));
+/** Puts what a table has beside its columns where calls find it. */
+function putDialect({ bytes, missing, widths }, take) {
   const mark = take(Uint8Array, missing.length);
   mark.set(missing);
   const sizes = take(BigUint64Array, widths.length);
@@ -87,6 +84,24 @@ export function putTable({ bytes, missing, widths }, reads, bad) {
   const spans = [mark, sizes].flatMap((it) => [BigInt(it.byteOffset), BigInt(it.length)]);
   tableWords.set([0n, 0n, ...spans]);
   tableBytes.set(bytes);
+}
+
+/** Puts a table alone where calls find it, and gives arrays behind it. */
+export function putTableAlone(how) {
+  const take = arraysFrom(columnsPlace);
+  putDialect(how, take);
+  return take;
+}
+
+/**
+ * Puts a table and its columns where calls find them: the arrays of each, how many rows there is room
+ * for, and room to tell so many bad rows.
+ */
+export function putTable(how, reads, bad) {
+  const rows = rowsOf(reads, how.missing, bad);
+  const take = arraysFrom(columnsPlace);
+  const columns = reads.map(() => take(BigUint64Array, WORDS));
+  putDialect(how, take);
   const badRows = take(Uint32Array, WORDS_OF_BAD_ROW * bad);
   const arrays = reads.map((read, index) => putColumn(columns[index], read, rows, take));
   return { arrays, rows, badRows, count: BigInt(reads.length) };
@@ -102,13 +117,13 @@ export function rowsBeforeFault(size, isLast, { rows, count }) {
   const [status, , column, , row, , place] = answer;
   if (status === 0) return { count: row, place, badCount: 0, bad: [] };
   rowPlace(ANSWER, TEXT, length, TABLE, BigInt(row));
-  return { count: row, place, badCount: 1, bad: [{ status, row, column, place, start: answer[2] }] };
+  return { count: row, place, badCount: 1, bad: [{ status, row, column, place, start: answer[2], stop: answer[4] }] };
 }
 
 /** What is known of a bad row that a call has told. */
 function badRowAt(words, index) {
-  const [status, , , , , , row, , column, , place, , start] = words.subarray(WORDS_OF_BAD_ROW * index);
-  return { status, row, column, place, start };
+  const [status, , , , , , row, , column, , place, , start, , stop] = words.subarray(WORDS_OF_BAD_ROW * index);
+  return { status, row, column, place, start, stop };
 }
 
 /** The same of the right rows of so many bytes of text, and of the bad ones, as far as there is room. */

@@ -61,7 +61,7 @@ export function named(name) {
 
 export const buffer = named("memory").buffer;
 
-// What a call is given and gives: its answer, a number, a count, a format, with what makes it one of
+// What a call is given and gives: its answer, a number, a count and an entry, a format, with what makes it one of
 // amounts, and from there on a text. It takes their addresses, and writes an answer of two words to
 // the first of them.
 const answerPlace = Math.ceil(Number(named("__heap_base").value) / 16) * 16;
@@ -72,12 +72,13 @@ export const textPlace = formatPlace + 48;
 export const ANSWER = BigInt(answerPlace);
 export const NUMBER = BigInt(numberPlace);
 export const COUNT = BigInt(countPlace);
+export const ENTRY = BigInt(countPlace + 8);
 export const FORMAT = BigInt(formatPlace);
 export const TEXT = BigInt(textPlace);
 export const LONGEST = buffer.byteLength - textPlace;
 
 const answer = new Uint32Array(buffer, answerPlace, 4);
-const counted = new Uint32Array(buffer, countPlace, 1);
+const counted = new Uint32Array(buffer, countPlace, 4);
 const formatBytes = new Uint8Array(buffer, formatPlace, 48);
 const textBytes = new Uint8Array(buffer, textPlace);
 const encoder = new TextEncoder();
@@ -89,6 +90,7 @@ const SHORT = 24;
 export const status = () => answer[0];
 export const place = () => answer[2];
 export const count = () => counted[0];
+export const entry = () => counted[2];
 
 /** Where calls leave a number, as an array of its type, or of its halves. */
 export function numberAs(NumberArray, length = 1) {
@@ -177,4 +179,23 @@ export function putText(text) {
   const { read, written } = encoder.encodeInto(text, textBytes);
   if (read < text.length) throw tooLong();
   return written;
+}
+
+/** The place of so many bytes at the end of the memory. */
+export function placeAtEnd(size) {
+  const start = Math.floor((buffer.byteLength - size) / 8) * 8;
+  if (start < textPlace) throw new RangeError(`there is no memory for ${size} bytes beside a text`);
+  return start;
+}
+
+/** Puts bytes to a place there. */
+export function putAt(bytes, start) {
+  textBytes.set(bytes, start - textPlace);
+}
+
+/** Copies a text that has to end before a place, and answers how many bytes it has. */
+export function putTextBefore(text, stop) {
+  const length = putText(text);
+  if (length > stop - textPlace) throw new RangeError(`text has more than ${stop - textPlace} bytes`);
+  return length;
 }

@@ -26,13 +26,6 @@ export interface Front<N> {
   stop: number;
 }
 
-/** A literal: its value, its suffix, as the `ull` of `0xFFull`, and the place where both stop. */
-export interface Literal {
-  value: bigint;
-  suffix: string;
-  stop: number;
-}
-
 /** What a call is told by its name. A format may also be given alone. */
 export interface FormatOption {
   /** What the text may look like. */
@@ -108,13 +101,6 @@ export function parsePartial<T extends NumberType>(
   type: T,
   options?: Format | FormatOption,
 ): Front<NumberOf<T>>;
-
-/**
- * The literal that a text begins with, and its suffix: all ASCII letters, digits 0 to 9 and "_"
- * behind its number, which is read as `parseFront` reads a u128. Which suffixes a language has is
- * for the caller to ask.
- */
-export function parseLiteral(text: Text, options?: Format | FormatOption): Literal;
 
 /** How many bytes a text of one number may have. */
 export const LONGEST: number;

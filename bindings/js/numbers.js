@@ -2,16 +2,16 @@
 
 import { AMOUNT_FIELDS, amountOf } from "./amounts.js";
 import { ofTable } from "./arguments.js";
+import { boundsOf, faultBesideBounds, outOfBounds } from "./bounds.js";
 import { faultOfText, ParseError } from "./errors.js";
 import { STANDARD, useFormat } from "./format.js";
 import * as memory from "./memory.js";
-import { areNamed, boundsOf, faultBesideBounds, formatOf, namedOptions, outOfBounds } from "./options.js";
+import { areNamed, formatOf, namedOptions } from "./options.js";
 
-const { ANSWER, COUNT, FORMAT, NUMBER, TEXT } = memory;
-const literalCall = memory.named("jadvolni_parse_literal");
+const { ANSWER, FORMAT, NUMBER, TEXT } = memory;
 
 /** The place at which a call has stopped, or the fault that it has found. */
-function stopOfCall() {
+export function stopOfCall() {
   const status = memory.status();
   if (status !== 0) throw faultOfText(status, memory.place());
   return memory.place();
@@ -57,7 +57,8 @@ function numberOfHalves(HalfArray) {
   return () => (halves[1] << 64n) | low[0];
 }
 
-const NUMBERS = {
+/** The number that a call has left, by its type. */
+export const NUMBERS = {
   u8: numberOf(Uint8Array),
   u16: numberOf(Uint16Array),
   u32: numberOf(Uint32Array),
@@ -96,14 +97,15 @@ function numberOfWhole(text, type, format, amount) {
 
 /** The number of a whole text within bounds. */
 function numberWithin(text, type, format, amount, bounds) {
+  const beyond = () => outOfBounds(text, bounds, amount);
   let number;
   try {
     number = numberOfWhole(text, type, format, amount);
   } catch (fault) {
     if (!(fault instanceof ParseError)) throw fault;
-    throw faultBesideBounds(fault, text, bounds, () => numberOfWhole(text, "i128", format, amount));
+    throw faultBesideBounds(fault, () => numberOfWhole(text, "i128", format, amount), beyond);
   }
-  if (number < bounds.min || number > bounds.max) throw outOfBounds(text, bounds);
+  if (number < bounds.min || number > bounds.max) throw beyond();
   return number;
 }
 
@@ -131,13 +133,4 @@ export function parsePartial(text, type, options) {
   const calls = ofTable(TYPES, "type", type);
   const stop = calls.parsePartial(text, formatOf("parsePartial", options));
   return { value: calls.number(), stop };
-}
-
-export function parseLiteral(text, options) {
-  const format = formatOf("parseLiteral", options);
-  const length = BigInt(memory.putText(text));
-  useFormat(format === undefined ? STANDARD : format);
-  literalCall(ANSWER, TEXT, length, FORMAT, NUMBER, COUNT);
-  const stop = stopOfCall();
-  return { value: NUMBERS.u128(), suffix: memory.textBetween(memory.count(), stop), stop };
 }

@@ -1,5 +1,6 @@
 // The rows of a text, which go through memory piece by piece.
 
+import { cellOfColumn } from "./cells.js";
 import { endOfRow } from "./header.js";
 import { putTable, rightRows, rowsBeforeFault } from "./layout.js";
 import * as memory from "./memory.js";
@@ -59,6 +60,12 @@ function readNext(bytes, start, reads, how) {
   return readPiece(bytes, start, size, reads, how);
 }
 
+/** A bad row of the piece that was read last as one of the text, in which so many rows and bytes stand before it. */
+function badRowOf({ status, row, column, place, start, stop }, rows, bytes) {
+  const cell = cellOfColumn(start, stop, column, bytes);
+  return { status, row: rows + row, column, place: bytes + place, start: bytes + start, cell };
+}
+
 /**
  * The columns of a text's rows from a place on, and how many bad rows were skipped. Where they aren't, the
  * error of the first one is thrown. `errorOf` makes the errors.
@@ -69,8 +76,7 @@ export function readRows(bytes, first, reads, how, errorOf) {
   let [start, row, badRows] = [first, 0, 0];
   while (start < length) {
     const { arrays, bad, badCount, count, place } = readNext(bytes, start, reads, how);
-    const errors = bad.map((it) =>
-      errorOf({ ...it, row: row + it.row, place: start + it.place, start: start + it.start }));
+    const errors = bad.map((it) => errorOf(badRowOf(it, row, start)));
     if (!how.skips && errors.length > 0) throw errors[0];
     arrays.forEach((array, index) => array && parts[index].push(partOf(array, reads[index], count, start)));
     start += place;

@@ -13,8 +13,10 @@ import { longRow, readRows } from "./rows.js";
 /** The header of a text, which the library judges as a row of which no cell is read. */
 function judgedHeader(bytes, how) {
   const judging = { ...how, skips: false, tell: undefined };
-  return headerOf(bytes, how, (start, stop, count) => {
+  const ask = (start, stop) => {
     if (stop - start > PIECE) throw longRow(bytes, start, how, "the header");
+  };
+  return headerOf(bytes, how, ask, (start, stop, count) => {
     const row = bytes.subarray(0, stop);
     readRows(row, start, Array(count).fill(null), judging, errorsOfRows(row, judging, []));
   });
@@ -74,12 +76,13 @@ function hasColumns() {
   return read.every(({ numbers, present }, index) => `${numbers};${present}` === `${cells[index]},0;1,0`);
 }
 
-/** Whether bad rows are found. */
+/** Whether bad rows are found, with their cells and the names of a header. */
 function hasBadRows() {
   const errors = [];
-  const { columns, badRows } = parseTable("1,2\n3,x\n5,6\ny,7\n8,9", ["u8", "u8"], { onError: "skip", errors });
-  const told = errors.map(({ kind, row, column, place, rowStart }) => [kind, row, column, place, rowStart]);
-  return `${columns}|${badRows}|${told}` === "1,5,8,2,6,9|2|InvalidDigit,1,1,6,4,InvalidDigit,3,0,12,12";
+  const table = { header: true, onError: "skip", errors };
+  const { columns, badRows } = parseTable("a,b\n1,2\n3,xy\n5,6\nz,7\n8,9", ["u8", "u8"], table);
+  const told = errors.map((it) => [it.kind, it.row, it.columnName, it.place, it.rowStart, it.text]);
+  return `${columns}|${badRows}|${told}` === "1,5,8,2,6,9|2|InvalidDigit,1,b,10,8,xy,InvalidDigit,3,a,17,17,z";
 }
 
 /** Whether the module finds tables, columns and bad rows where they are put. */

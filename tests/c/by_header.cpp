@@ -183,6 +183,8 @@ static void bounds()
     CHECK(jadvolni::parse_within<int>("6", 1, 5).status() == status::overflow);
     CHECK(jadvolni::parse_within<int>("0", 1, 5).status() == status::underflow);
     CHECK(jadvolni::parse_within<int>("99999999999", 1, 5).place() == 0);
+    auto quoted = jadvolni::parse_within<int>("70'000", 1, 5, jadvolni::formats::cpp14);
+    CHECK(std::string(quoted.message()) == "70'000 is not from 1 to 5");
     auto hexadecimal = jadvolni_format_of_radix(16), separated = jadvolni::standard, broken = jadvolni::standard;
     hexadecimal.base_prefix = 'x';
     auto read = jadvolni::parse_within<unsigned>("0x1000000", 0, 0xFFFFFF, hexadecimal);

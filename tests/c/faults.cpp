@@ -46,7 +46,7 @@ static void each_kind()
     CHECK(says("1,\"a\n\",2\n3,b\"c\",4", commas(true),
                "line 3, column 2: \"b\\\"c\\\"\": misplaced quote at byte 1 of the cell"));
     CHECK(says("1,a,2\n3,\"b,4\n5,c,6\n", commas(true),
-               "line 2, column 2: \"\\\"b,4\\n5,c,6\": misplaced quote at byte 0 of the cell"));
+               "line 2, column 2: \"\\\"b,4\\n5,c,6\\n\": misplaced quote at byte 0 of the cell"));
     CHECK(says("1,a,\"5x\"\n", commas(true), "line 1, column 3: \"\\\"5x\\\"\": invalid digit at byte 2 of the cell"));
     CHECK(says("1,a,5\n\n\n 3x ,b,7\n", skips, "line 4, column 1: \" 3x \": invalid digit at byte 2 of the cell"));
     const auto fault = fault_of("1,\"a\nb\",7\n2,c,12x\n3,d,8\n", commas(true));

@@ -73,9 +73,15 @@ test("fronts", () => {
 test("bounds are in units of the last place", () => {
   const bounds = { ...CENTS, min: 100, max: 200 };
   assert.equal(parse("1.5", "u8", bounds), 150);
-  assert.throws(() => parse("0.99", "u8", bounds), { kind: "OutOfBounds", message: "0.99 is not from 100 to 200" });
-  assert.throws(() => parse("99.00", "u8", bounds), { kind: "OutOfBounds", message: "99.00 is not from 100 to 200" });
+  assert.throws(() => parse("0.99", "u8", bounds), { kind: "OutOfBounds", message: "0.99 is not from 1.00 to 2.00" });
+  assert.throws(() => parse("99.00", "u8", bounds), { kind: "OutOfBounds", message: "99.00 is not from 1.00 to 2.00" });
   assert.equal(told(() => parse("1.5x", "u8", bounds)), "InvalidDigit(3)");
+  const small = (places) => ({ places, point: ",", takes_fewer: true, max: 5 });
+  assert.throws(() => parse("0,200", "i8", small(3)), { message: "0,200 is not from -0,128 to 0,005", min: -128n, max: 5 });
+  assert.throws(() => parse("-13", "i8", small(1)), { message: "-13 is not from -12,8 to 0,5" });
+  assert.throws(() => parse("6", "i8", small(0)), { message: "6 is not from -128 to 5" });
+  const strange = { places: 1, point: 255, max: 5 };
+  assert.throws(() => parse(Uint8Array.of(49, 255, 50), "u8", strange), { message: "1\\xff2 is not from 0\\xff0 to 0\\xff5" });
 });
 
 test("columns of each type", () => {

@@ -73,6 +73,21 @@ test("names that are missing or stand twice", () => {
   assert.match(told(many, { x: "u8" }), /^HeaderError: no column "x": the header has "0", .*, "39" and 960 more$/);
 });
 
+test("headers that are hostile", () => {
+  assert.deepEqual(names(Uint8Array.of(0xff, 0x2c, 0, 0x0a)), ["\ufffd", "\0"]);
+  assert.deepEqual(names("a,b\r1\r"), ["a", "b\r1\r"]);
+  assert.deepEqual(names("\ufeff\n\na", { skips_empty_rows: true }), ["a"]);
+  assert.deepEqual(names("\r\n\n\ra", { skips_empty_rows: true, allows_returns: true }), ["\ra"]);
+  assert.deepEqual(names(`${"\n".repeat(50_000)}a\n`, { skips_empty_rows: true }), ["a"]);
+  assert.deepEqual(names("\n\nab", { skips_empty_rows: true, widths: [0, 2] }), ["", "ab"]);
+  assert.equal(names(",".repeat(3_000_000)), "3000001 columns are more than there is memory for");
+  assert.equal(names("a\n", { missing: "x".repeat(34_000_000) }), "the table is more than there is memory for");
+  assert.equal(names("a\n", { widths: [Number.MAX_SAFE_INTEGER] }), "line 1: too few cells, none for column 1");
+  const shared = new Uint8Array(new SharedArrayBuffer(8));
+  shared.set(Buffer.from("a,b\n1,x\n"));
+  assert.throws(() => parseTable(shared, { b: "u8" }, { header: true }), { columnName: "b", text: "x", row: 0 });
+});
+
 test("columns by their names", () => {
   const text = '\ufeffday,what,"cents\n"\r\n1,"a\nb",-80000\r\n2,c,7\r\n';
   const table = { has_quotes: true, has_returns: true, header: true };

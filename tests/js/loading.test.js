@@ -68,16 +68,18 @@ test("a module whose tables have another layout is told", async () => {
     ['"is_records", "allows_returns"', '"allows_returns", "is_records"'],
     ["tablePlace + 48", "tablePlace + 40"], ["[status, , column, , row,", "[status, , row, , column,"],
     ["WORDS_OF_BAD_ROW = 16", "WORDS_OF_BAD_ROW = 12"],
-    ["row, , column, , place, , start]", "column, , row, , place, , start]"],
-    [", , place, , start]", ", , start, , place]"],
+    ["row, , column, , place, , start, , stop]", "column, , row, , place, , start, , stop]"],
+    [", , place, , start, , stop]", ", , start, , place, , stop]"],
+    ["start, , stop]", "stop, , start]"],
     ["[status, , , , right, , badCount,", "[status, , , , badCount, , right,"],
   ];
   const texts = [
     ["WORDS_OF_TEXT = 6", "WORDS_OF_TEXT = 4"], ["words[at]", "words[at + 1]"], ["at + 2", "at + 3"],
     ["at + 4", "at + 5"],
   ];
+  const cells = [["WORDS_OF_CELL = 4", "WORDS_OF_CELL = 2"], ["index + 2", "index + 3"], ["start + words", "words"]];
   const amounts = [["takes_fewer)], 32)", "takes_fewer)], 33)"]];
-  const others = Object.entries({ layout, texts, amounts }).flatMap(([file, edits]) =>
+  const others = Object.entries({ layout, texts, cells, amounts }).flatMap(([file, edits]) =>
     edits.map((edit) => [file, ...edit]));
   const message = /jadvolni\.wasm is of another version: its tables have another layout$/;
   for (const [index, [file, ours, theirs]] of others.entries()) {

@@ -11,7 +11,6 @@ import {
   parseColumn,
   ParseError,
   parseFront,
-  parseLiteral,
   parsePartial,
 } from "../../bindings/js/index.js";
 import { told } from "./answers.js";
@@ -102,12 +101,6 @@ test("fronts stop where their numbers end", () => {
   assert.equal(told(() => parseFront("[- 5]", "i64", formats.JSON)), "Empty(0)");
   assert.equal(told(() => parseFront("0xg", "u64", formats.RUST)), "Empty(2)");
   assert.deepEqual(parseFront("0x1F;", "u8", formats.RUST), { value: 31, stop: 4 });
-});
-
-test("literals have their suffixes", () => {
-  assert.deepEqual(parseLiteral("0xFFull;", formats.C), { value: 255n, suffix: "ull", stop: 7 });
-  assert.deepEqual(parseLiteral("12 px"), { value: 12n, suffix: "", stop: 2 });
-  assert.equal(told(() => parseLiteral("px")), "Empty(0)");
 });
 
 test("a fault says what is wrong, and at which byte of UTF-8", () => {

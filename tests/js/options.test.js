@@ -62,6 +62,13 @@ test("bounds, and what is said of others", () => {
   assert.equal(within("-0", "u8", 0, 5), "invalid digit at byte 0");
   assert.equal(within("", "u8", 0, 5), "missing digit at byte 0");
   assert.equal(within("07", "u8", 0, 5, formats.JSON), "forbidden leading zero at byte 0");
+  assert.equal(within("300", "u8", undefined, 1000), "300 is not from 0 to 255");
+  assert.equal(within("-1", "u8", -5, 1000), "-1 is not from 0 to 255");
+  assert.equal(within("7", "u8", -(10n ** 40n), 10n ** 40n), 7);
+  assert.equal(within("70'000", "u32", 0, 9, formats.CPP14), "70'000 is not from 0 to 9");
+  const separated = new Format({ digit_separator: "\0", integer_internal_digit_separator: true });
+  assert.equal(within("6\x000", "u8", 1, 5, separated), "6\\x000 is not from 1 to 5");
+  assert.equal(within("", "u8", 1, 5, new Format({ required_mantissa_digits: false })), " is not from 1 to 5");
   const fault = { name: "ParseError", kind: "OutOfBounds", place: 0, min: 1, max: 65535n, field: undefined };
   assert.throws(() => parse("70000", "u16", { min: 1 }), fault);
   assert.throws(() => parse("1\0", "u8", { min: 1 }), { kind: "InvalidDigit", place: 1 });

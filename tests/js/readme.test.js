@@ -3,7 +3,9 @@ import assert from "node:assert/strict";
 import { readFileSync } from "node:fs";
 import { test } from "node:test";
 import { inspect } from "node:util";
+import { gzipSync } from "node:zlib";
 import * as jadvolni from "../../bindings/js/index.js";
+import { MODULE } from "./copies.js";
 
 const PAGE = readFileSync(new URL("../../bindings/js/README.md", import.meta.url), "utf8");
 
@@ -29,4 +31,12 @@ test("the examples of README", () => {
   }
   assert.equal(examples, (PAGE.match(/^\S.*; \/\/ /gm) ?? []).length);
   assert.ok(examples > 20);
+});
+
+test("the module has about the size that README says", () => {
+  const [, ...told] = PAGE.match(/^.*The module has (\d+) kB, (\d+) kB by gzip/m);
+  const sizes = [MODULE.length, gzipSync(MODULE, { level: 9 }).length];
+  sizes.forEach((size, index) => {
+    assert.ok(Math.abs(size / 1000 / told[index] - 1) < 0.05, `${size} bytes, and not ${told[index]} kB`);
+  });
 });

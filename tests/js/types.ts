@@ -1,15 +1,20 @@
 // What TypeScript, from 4.8 on, makes of index.d.ts: all of it fits, but where an error is expected.
 import {
   Format, formats, HeaderError, parse, parseColumn, ParseError, parseFront, parseLiteral, parseTable,
+  parseTypedLiteral,
 } from "../../bindings/js/index.js";
 import type {
-  NumberOf, NumberType, Skipped, Sparse, Table, TableColumn, TextColumn,
+  NumberOf, NumberType, Skipped, Sparse, Table, TableColumn, TextColumn, TypedLiteral,
 } from "../../bindings/js/index.js";
 
 export const small: number = parse("255", "u8", new Format({ mantissa_radix: 16 }));
 export const wide: bigint = parse(Uint8Array.of(49), "u64", formats.RUST);
 export const front: { value: number; stop: number } = parseFront("12px", "u16");
 export const suffix: string = parseLiteral("1u").suffix;
+const typed = parseTypedLiteral("1u8", { "": "i64", u8: "u8" }, formats.RUST);
+export const valueOfTyped: number | bigint = typed.type === "u8" ? typed.value + 1 : typed.value + 1n;
+const suffixes: { [suffix: string]: NumberType } = { u: "u128" };
+export const anyTyped: TypedLiteral = parseTypedLiteral("1u", suffixes);
 export const column: BigInt64Array = parseColumn("12", "i64", ",");
 export const [bytes, unread, sparse] = parseTable("1,x,", ["u8", null, { type: "i32", may_miss: true }]);
 export const ofTable: [Uint8Array, null, Int32Array, Uint8Array] = [
@@ -65,6 +70,8 @@ parseFront("12", "u8", { min: 1 });
 parseTable("id\n", { id: "u64" }, {});
 // @ts-expect-error
 parse("12", "u7");
+// @ts-expect-error
+parseTypedLiteral("12u", { u: "u7" });
 // @ts-expect-error (fields alone are no format)
 parse("12", "u8", { ...formats.RUST });
 // @ts-expect-error

@@ -27,18 +27,10 @@ static int question_of(PyObject *module, const char *call, PyObject *const *args
 /* The number of a text within bounds. */
 static PyObject *bounded(const core_state *state, const question *asked, PyObject *const *given)
 {
-    number value;
     bounds between;
     PyObject *result = NULL;
-    if (bounds_of(given[0], given[1], &between) == 0) {
-        const borrowed_text *text = &asked->text;
-        const notation *written = &asked->written;
-        jadvolni_result answer = whole_number(text, written->type, written, &value);
-        if (answer.status == JADVOLNI_OK)
-            result = within(state, written->type->number(&value), &between);
-        else if (!raise_beyond(state, answer, text, written, &between))
-            raise_fault(state, answer, text->bytes, text->len, NULL);
-    }
+    if (bounds_of(given[0], given[1], &between) == 0)
+        result = number_within(state, &asked->text, &asked->written, &between);
     let_go_bounds(&between);
     return result;
 }
@@ -216,6 +208,7 @@ static PyMethodDef METHODS[] = {
     {"_text_size", text_size, METH_O, "How many bytes a text has."},
     {"_move_bits", move_bits, METH_VARARGS, "Puts bits behind those before a place."},
     {"_row_cells", row_cells, METH_VARARGS, "The cells of a row."},
+    {"_text_list", text_list, METH_VARARGS, "The texts of a column, or None where their places are none."},
     {"_row_ends", row_ends, METH_VARARGS, "Where the first and the last row end in a text."},
     {"_arrow_schema", arrow_schema_of, METH_VARARGS, "What Arrow calls a table or a column."},
     {"_arrow_array", arrow_array_of, METH_VARARGS, "A table or a column for Arrow."},

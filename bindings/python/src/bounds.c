@@ -1,6 +1,8 @@
 /*
  * bounds.c - the bounds that a caller sets for a number, and the fault of one that leaves them.
  */
+#include <stdio.h>
+
 #include "core.h"
 
 /* A bound as an int, or None where there is none. NULL with an exception. */
@@ -37,66 +39,154 @@ void let_go_bounds(bounds *asked)
     Py_XDECREF(asked->most);
 }
 
-/* The status of a number that leaves bounds, and JADVOLNI_OK where it doesn't. -1 with an exception. */
-static int status_within(PyObject *value, const bounds *asked)
+/* Whether a number is within bounds. -1 with an exception. */
+static int is_within(PyObject *value, const bounds *asked)
 {
     int below = asked->least == Py_None ? 0 : PyObject_RichCompareBool(value, asked->least, Py_LT);
     int above = asked->most == Py_None ? 0 : PyObject_RichCompareBool(value, asked->most, Py_GT);
-    if (below < 0 || above < 0)
-        return -1;
-    return below ? JADVOLNI_UNDERFLOW : above ? JADVOLNI_OVERFLOW : JADVOLNI_OK;
+    return below < 0 || above < 0 ? -1 : !below && !above;
 }
 
-/* Raises the fault of a number, or of what shows it. */
-static void raise_bounds(const core_state *state, PyObject *shown, const bounds *asked,
-                         jadvolni_result answer)
+/* ---- the fault of a text whose number is out of bounds ---- */
+
+/* A byte is shown by up to four characters, and behind them stands a NUL. */
+enum { SHOWN_BYTE = 5 };
+
+/* The least or the greatest number of a type, of which all bits but the highest are alike. */
+static PyObject *end_of(const number_type *type, int is_greatest)
 {
-    PyObject *message;
-    if (asked->least == Py_None)
-        message = PyUnicode_FromFormat("%S is more than %S", shown, asked->most);
-    else if (asked->most == Py_None)
-        message = PyUnicode_FromFormat("%S is less than %S", shown, asked->least);
-    else
-        message = PyUnicode_FromFormat("%S is not from %S to %S", shown, asked->least, asked->most);
-    raise_message(state, message, answer);
+    number end;
+    size_t size = type->size ? type->size : sizeof end.u128;
+    memset(&end, is_greatest ? 0xFF : 0, sizeof end);
+    if (*type->name == 'i')
+        ((unsigned char *)&end)[size - 1] ^= 0x80;
+    return type->number(&end);
 }
 
-PyObject *within(const core_state *state, PyObject *value, const bounds *asked)
+/* A bound that was asked for; the end of the type where there is none, or where it is beyond that. */
+static PyObject *bound_within(const number_type *type, PyObject *asked, int is_greatest)
 {
-    int status = value ? status_within(value, asked) : -1;
-    if (status == JADVOLNI_OK)
-        return value;
-    if (status > 0)
-        raise_bounds(state, value, asked, (jadvolni_result){.status = (uint32_t)status});
-    Py_XDECREF(value);
-    return NULL;
+    PyObject *end = end_of(type, is_greatest);
+    if (!end || asked == Py_None)
+        return end;
+    int is_narrower = PyObject_RichCompareBool(asked, end, is_greatest ? Py_LT : Py_GT);
+    if (is_narrower == 0)
+        return end;
+    Py_DECREF(end);
+    return is_narrower > 0 ? Py_NewRef(asked) : NULL;
 }
 
-/* The number of a text that its type is too small for, or None where 128 bits are too few as well. */
-static PyObject *wide_value(const borrowed_text *text, const notation *written)
+/* Puts a byte, or its number where it isn't printable ASCII, as a string: how many characters that are. */
+static int put_shown(char *to, unsigned char byte)
 {
-    for (const number_type *type = types; type < types + TYPES; type++) {
-        number value;
-        if (!type->array_code
-            && whole_number(text, type, written, &value).status == JADVOLNI_OK)
-            return type->number(&value);
+    int is_printable = byte >= ' ' && byte < 0x7F;
+    return snprintf(to, SHOWN_BYTE, is_printable ? "%c" : "\\x%02x", byte);
+}
+
+/* A bound as texts have it: that of amounts has a point. */
+static PyObject *shown_bound(PyObject *bound, const notation *written)
+{
+    Py_ssize_t places = written->is_fixed ? written->fixed.places : 0;
+    PyObject *digits = PyObject_Str(bound);
+    if (!digits || places == 0)
+        return digits;
+    int is_negative = PyUnicode_ReadChar(digits, 0) == '-';
+    PyObject *padded = PyObject_CallMethod(digits, "zfill", "n", places + 1 + is_negative);
+    Py_DECREF(digits);
+    if (!padded)
+        return NULL;
+    Py_ssize_t size = PyUnicode_GetLength(padded);
+    PyObject *whole = PyUnicode_Substring(padded, 0, size - places);
+    PyObject *rest = whole ? PyUnicode_Substring(padded, size - places, size) : NULL;
+    char point[SHOWN_BYTE];
+    put_shown(point, written->fixed.point ? written->fixed.point : '.');
+    PyObject *shown = rest ? PyUnicode_FromFormat("%U%s%U", whole, point, rest) : NULL;
+    Py_XDECREF(rest);
+    Py_XDECREF(whole);
+    Py_DECREF(padded);
+    return shown;
+}
+
+/* The front of a text, in which bytes that aren't printable ASCII are told by their numbers. */
+static PyObject *shown_front(const borrowed_text *text)
+{
+    enum { MOST = 40 }; /* so many bytes are told */
+    char shown[MOST * SHOWN_BYTE] = "";
+    int size = 0;
+    for (size_t k = 0; k < text->len && k < MOST; k++)
+        size += put_shown(shown + size, (unsigned char)text->bytes[k]);
+    return PyUnicode_FromFormat("%s%s", shown, text->len > MOST ? ".." : "");
+}
+
+/* What is said of a text, and of the bounds that its number leaves. */
+static PyObject *message_of(const borrowed_text *text, const notation *written, PyObject *least,
+                            PyObject *most)
+{
+    PyObject *from = shown_bound(least, written), *message = NULL;
+    PyObject *to = from ? shown_bound(most, written) : NULL;
+    PyObject *given = to ? shown_front(text) : NULL;
+    if (given)
+        message = PyUnicode_FromFormat("%U is not from %U to %U", given, from, to);
+    Py_XDECREF(given);
+    Py_XDECREF(to);
+    Py_XDECREF(from);
+    return message;
+}
+
+static void raise_out_of_bounds(const core_state *state, const borrowed_text *text,
+                                const notation *written, const bounds *asked)
+{
+    PyObject *least = bound_within(written->type, asked->least, 0), *message = NULL;
+    PyObject *most = least ? bound_within(written->type, asked->most, 1) : NULL;
+    if (most)
+        message = message_of(text, written, least, most);
+    if (message)
+        raise_bounds(state, message, least, most);
+    Py_XDECREF(most);
+    Py_XDECREF(least);
+}
+
+/* ---- numbers ---- */
+
+static int is_beyond(uint32_t status)
+{
+    return status == JADVOLNI_OVERFLOW || status == JADVOLNI_UNDERFLOW;
+}
+
+/* What else is wrong with a text than that its type, which answers so, lacks its number; JADVOLNI_OK where
+ * that is all. The widest type with a sign tells, in which "-5" and "70000" are numbers. */
+static jadvolni_result fault_beside_bounds(const borrowed_text *text, const notation *written,
+                                           jadvolni_result answer)
+{
+    static const jadvolni_result none = {JADVOLNI_OK, 0};
+    number wide;
+    jadvolni_result other = whole_number(text, widest_type, written, &wide);
+    if (other.status == JADVOLNI_OK)
+        return is_beyond(answer.status) || wide.i128.high < 0 ? none : answer;
+    if (is_beyond(other.status))
+        return none;
+    return is_beyond(answer.status) ? other : answer;
+}
+
+PyObject *number_within(const core_state *state, const borrowed_text *text, const notation *written,
+                        const bounds *asked)
+{
+    number value;
+    PyObject *result = NULL;
+    int is_taken = 0;
+    jadvolni_result answer = whole_number(text, written->type, written, &value);
+    if (answer.status == JADVOLNI_OK) {
+        result = written->type->number(&value);
+        is_taken = result ? is_within(result, asked) : -1;
+    } else {
+        answer = fault_beside_bounds(text, written, answer);
     }
-    return Py_NewRef(Py_None);
-}
-
-int raise_beyond(const core_state *state, jadvolni_result answer, const borrowed_text *text,
-                 const notation *written, const bounds *asked)
-{
-    if (answer.status != JADVOLNI_OVERFLOW && answer.status != JADVOLNI_UNDERFLOW)
-        return 0;
-    PyObject *value = wide_value(text, written), *shown = NULL;
-    int left = !value ? -1 : value != Py_None ? status_within(value, asked)
-               : (answer.status == JADVOLNI_OVERFLOW ? asked->most : asked->least) != Py_None;
-    if (left > 0)
-        shown = value != Py_None ? Py_NewRef(value) : shown_bytes(text->bytes, text->len);
-    if (shown)
-        raise_bounds(state, shown, asked, answer);
-    Py_XDECREF(shown);
-    Py_XDECREF(value);
-    return left != 0;
+    if (is_taken > 0)
+        return result;
+    Py_XDECREF(result);
+    if (answer.status != JADVOLNI_OK)
+        raise_fault(state, answer, text->bytes, text->len, NULL);
+    else if (is_taken == 0)
+        raise_out_of_bounds(state, text, written, asked);
+    return NULL;
 }

@@ -67,6 +67,7 @@ typedef struct number_type {
 
 enum { TYPES = 12 };
 extern const number_type types[TYPES];
+extern const number_type *const widest_type; /* of those with a sign */
 
 /* The type of a name, of a class with that name or of a dtype of NumPy, and i64 for NULL. NULL with an exception for what
  * is none. */
@@ -115,11 +116,8 @@ void raise_format(const core_state *state, uint32_t status);
 void raise_fault(const core_state *state, jadvolni_result answer, const char *text, size_t len,
                  const field_place *field);
 
-/* The first bytes of a text, as a message shows them. */
-PyObject *shown_bytes(const char *text, size_t len);
-
-/* Raises ParseError with a message, which it takes over. */
-void raise_message(const core_state *state, PyObject *message, jadvolni_result answer);
+/* Raises ParseError for a number that is out of bounds, with a message, which it takes over. */
+void raise_bounds(const core_state *state, PyObject *message, PyObject *least, PyObject *most);
 
 /* ---- how numbers are written ---- */
 
@@ -159,12 +157,9 @@ int bounds_of(PyObject *least, PyObject *most, bounds *asked);
 
 void let_go_bounds(bounds *asked);
 
-/* A number that is within bounds, which it takes over. NULL with ParseError. */
-PyObject *within(const core_state *state, PyObject *value, const bounds *asked);
-
-/* Raises ParseError where a text has no number of its type, but one that leaves bounds, and says if so. */
-int raise_beyond(const core_state *state, jadvolni_result answer, const borrowed_text *text,
-                 const notation *written, const bounds *asked);
+/* The number of a whole text within bounds. NULL with an exception. */
+PyObject *number_within(const core_state *state, const borrowed_text *text, const notation *written,
+                        const bounds *asked);
 
 /* ---- tables.c ---- */
 
@@ -239,6 +234,9 @@ int ask_apart(const Py_buffer *rooms, Py_ssize_t count, const borrowed_text *tex
  * quotes are one. -1 with an exception. */
 int put_texts(PyObject *bytes, const char *text, const jadvolni_cell_text *cells, size_t count,
               int64_t *sizes);
+
+/* _text_list(data, offsets, bits, count, is_utf8) */
+PyObject *text_list(PyObject *module, PyObject *args);
 
 /* ---- arrow.c ---- */
 

@@ -10,10 +10,10 @@ enum { SHOWN = 64 };
 static PyObject *exception(PyObject *module, const char *name, const char *path, const char *text)
 {
     PyObject *attributes =
-        Py_BuildValue("{s:s,s:O,s:O,s:O,s:O,s:O,s:O,s:O,s:O,s:O,s:O}", "kind", "", "place", Py_None,
-                      "field", Py_None, "start", Py_None, "row", Py_None, "line", Py_None, "column",
-                      Py_None, "name", Py_None, "row_start", Py_None, "row_stop", Py_None, "text",
-                      Py_None);
+        Py_BuildValue("{s:s,s:O,s:O,s:O,s:O,s:O,s:O,s:O,s:O,s:O,s:O,s:O,s:O}", "kind", "", "place",
+                      Py_None, "field", Py_None, "start", Py_None, "row", Py_None, "line", Py_None,
+                      "column", Py_None, "name", Py_None, "row_start", Py_None, "row_stop", Py_None,
+                      "text", Py_None, "min", Py_None, "max", Py_None);
     PyObject *made = NULL;
     if (attributes)
         made = PyErr_NewExceptionWithDoc(path, text, PyExc_ValueError, attributes);
@@ -29,6 +29,7 @@ int make_exceptions(PyObject *module, core_state *state)
         module, "ParseError", "jadvolni.ParseError",
         "A text is no number of its type, or none under its format.\n\n"
         "kind: what is wrong, as \"Overflow\". place: at which byte of the text.\n"
+        "min, max: the bounds, where the kind is \"OutOfBounds\"; the place is 0.\n"
         "field, start: in a column the field's index and its first byte.\n"
         "row, column: in a table the wrong cell. name: that of its column.\n"
         "line: the line feeds before the place. row_start, row_stop: where its row is.\n"
@@ -50,10 +51,9 @@ static int set_attribute(PyObject *error, const char *name, PyObject *value)
     return set;
 }
 
-/* An exception of a type with a message, which it takes over, and the kind of a status. */
-static PyObject *error_of(PyObject *type, PyObject *message, uint32_t status)
+/* An exception of a type with a message, which it takes over, and a kind. */
+static PyObject *error_of(PyObject *type, PyObject *message, const char *kind)
 {
-    const char *kind = jadvolni_status_name(status);
     PyObject *error = message ? PyObject_CallFunctionObjArgs(type, message, NULL) : NULL;
     Py_XDECREF(message);
     if (error && set_attribute(error, "kind", PyUnicode_FromString(kind)) < 0)
@@ -71,13 +71,14 @@ int is_of_format(uint32_t status)
 void raise_format(const core_state *state, uint32_t status)
 {
     PyObject *message = PyUnicode_FromString(jadvolni_status_text(status));
-    PyObject *error = error_of(state->format_error, message, status);
+    PyObject *error = error_of(state->format_error, message, jadvolni_status_name(status));
     if (error)
         PyErr_SetObject(state->format_error, error);
     Py_XDECREF(error);
 }
 
-PyObject *shown_bytes(const char *text, size_t len)
+/* The first bytes of a text, as a message shows them. */
+static PyObject *shown_bytes(const char *text, size_t len)
 {
     PyObject *bytes = PyBytes_FromStringAndSize(text, (Py_ssize_t)(len > SHOWN ? SHOWN : len));
     PyObject *shown = bytes ? PyUnicode_FromFormat("%R%s", bytes, len > SHOWN ? ".." : "") : NULL;
@@ -100,10 +101,12 @@ static PyObject *message_of(jadvolni_result answer, const char *text, size_t len
     return message;
 }
 
-void raise_message(const core_state *state, PyObject *message, jadvolni_result answer)
+void raise_bounds(const core_state *state, PyObject *message, PyObject *least, PyObject *most)
 {
-    PyObject *error = error_of(state->parse_error, message, answer.status);
-    if (error && set_attribute(error, "place", PyLong_FromSize_t(answer.place)) == 0)
+    PyObject *error = error_of(state->parse_error, message, "OutOfBounds");
+    if (error && set_attribute(error, "place", PyLong_FromLong(0)) == 0
+        && set_attribute(error, "min", Py_NewRef(least)) == 0
+        && set_attribute(error, "max", Py_NewRef(most)) == 0)
         PyErr_SetObject(state->parse_error, error);
     Py_XDECREF(error);
 }
@@ -116,7 +119,7 @@ void raise_fault(const core_state *state, jadvolni_result answer, const char *te
         return;
     }
     PyObject *message = message_of(answer, text, len, field);
-    PyObject *error = error_of(state->parse_error, message, answer.status);
+    PyObject *error = error_of(state->parse_error, message, jadvolni_status_name(answer.status));
     if (error && set_attribute(error, "place", PyLong_FromSize_t(answer.place)) == 0
         && (!field || (set_attribute(error, "field", PyLong_FromSize_t(field->index)) == 0
                        && set_attribute(error, "start", PyLong_FromSize_t(field->start)) == 0)))

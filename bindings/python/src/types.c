@@ -121,6 +121,8 @@ const number_type types[TYPES] = {
     WIDE_TYPE(u128, U128),
 };
 
+const number_type *const widest_type = &types[TYPES - 2];
+
 /* The type of a name, and NULL where it is that of none. */
 static const number_type *type_named(PyObject *name)
 {

@@ -151,12 +151,24 @@ class FixedPoint(unittest.TestCase):
     def test_bounds_of_the_caller(self):
         self.assertEqual(parse("12.50", CENTS, min=0, max=2000), 1250)
         for text, message in (
-            ("20.01", "2001 is not from 0 to 2000"), ("-0.01", "-1 is not from 0 to 2000"),
-            ("100000000000000000000.00", "10000000000000000000000 is not from 0 to 2000"),
+            ("20.01", "20.01 is not from 0.00 to 20.00"),
+            ("-0.01", "-0.01 is not from 0.00 to 20.00"),
+            ("100000000000000000000.00", "100000000000000000000.00 is not from 0.00 to 20.00"),
         ):
             with self.assertRaises(ParseError) as told:
                 parse(text, CENTS, min=0, max=2000)
             self.assertEqual(str(told.exception), message)
+            self.assertEqual((told.exception.min, told.exception.max), (0, 2000))
+        for text, places, message in (
+            ("0,200", 3, "0,200 is not from -0,128 to 0,005"),
+            ("-13", 1, "-13 is not from -12,8 to 0,5"),
+            ("6", 0, "6 is not from -128 to 5"),
+        ):
+            with self.assertRaisesRegex(ParseError, f"^{message}$"):
+                parse(text, Fixed("i8", places=places, point=",", takes_fewer=True), max=5)
+        with self.assertRaises(ParseError) as told:
+            parse(b"1\xff2", Fixed("u8", places=1, point=b"\xff"), max=5)
+        self.assertEqual(str(told.exception), r"1\xff2 is not from 0\xff0 to 0\xff5")
         self.fault("InvalidDigit", 5, parse, "12.505", CENTS, max=5)
 
     def test_descriptions_that_break_a_rule(self):

@@ -74,6 +74,7 @@ class Names(unittest.TestCase):
             (b'id"amount\n1"-80000\n2"7\n', {"separator": '"'}),
             (b"id\tamount\n\n1\t-80000\n\n2\t7\n",
              {"separator": "\t", "skips_empty_rows": True}),
+            (b'" id ","amount\t"\n1,-80000\n2,7\n', {"has_quotes": True, "allows_blanks": True}),
         ):
             with self.subTest(text=text):
                 self.assertEqual(self.found(text, COLUMNS, **given), WANTED)
@@ -83,6 +84,31 @@ class Names(unittest.TestCase):
         self.assertEqual(self.found("äöü,x\n1,2\n".encode(), {"äöü": "u8"}), {"äöü": [1]})
         self.assertEqual(self.found(b"\xff,x\n1,2\n", {"\udcff": "u8"}), {"\udcff": [1]})
         self.assertEqual(self.found(b",x\n1,2\n", {"": "u8"}), {"": [1]})
+
+    def test_empty_rows_before_it_are_skipped(self):
+        for end, given in ((b"\n", {}), (b"\r\n", {"has_returns": True}),
+                           (b"\n", {"allows_returns": True}), (b"\r\n", {"allows_returns": True})):
+            for mark in b"", b"\xef\xbb\xbf":
+                for count in 0, 1, 2, 300:
+                    text = mark + count * end + TEXT.replace(b"\n", end)
+                    found = self.found(text, COLUMNS, skips_empty_rows=True, **given)
+                    self.assertEqual(found, WANTED)
+                    bad = self.found(text + b"x" + end, COLUMNS, skips_empty_rows=True, **given)
+                    self.assertEqual(bad[:5], ("InvalidDigit", 2, 0, len(text), count + 3))
+        for text in b"", b"\n", b"\n\n\n", b"\xef\xbb\xbf\n\n":
+            with self.assertRaisesRegex(ValueError, "^there is no header: the text has no byte$"):
+                parse_table(text, COLUMNS, header=True, skips_empty_rows=True)
+        self.assertEqual(self.found(b"\n\xef\xbb\xbfid\n1\n", {"\ufeffid": "u8"},
+                                    skips_empty_rows=True), {"\ufeffid": [1]})
+        for returns in "allows_returns", "has_returns":
+            with self.assertRaisesRegex(ValueError, "the text has returns and no line feed"):
+                parse_table(b"\r\rid\r", COLUMNS, header=True, skips_empty_rows=True,
+                            **{returns: True})
+        text = b"\n" * 100_000 + TEXT
+        tables = iter_table(io.BytesIO(text), COLUMNS, header=True, skips_empty_rows=True, size=40)
+        self.assertEqual(sum(len(it["id"]) for it in tables), 2)
+        self.assertEqual(parse_table("\n\nid\n", {"id": "u8"}, header=True,
+                                     skips_empty_rows=True)["id"].tolist(), [])
 
     def test_names_that_are_missing_or_twice(self):
         for text, columns, given, message in (

@@ -154,6 +154,45 @@ class Sequences(unittest.TestCase):
         self.assertEqual(pickle.loads(pickle.dumps(found)).tolist(), ["a", "bc", ""])
         self.assertEqual(parse_table("", BOTH)["what"].tolist(), [])
 
+    def test_a_list_has_what_each_row_has(self):
+        chance = random.Random(5)
+        texts = ["", "a", "Bücher", "€\U0001f600", "x" * 300, "\0", 'a"b', "NA"]
+        for encoding in "utf-8", "UTF8", "utf-16-le", "latin-1", None:
+            for count in 0, 1, 7, 8, 9, 1000:
+                chosen = [chance.choice(texts) for _ in range(count)]
+                raw = [it.encode(encoding or "utf-8", "replace") for it in chosen]
+                offsets = array.array("q", [0, *itertools.accumulate(map(len, raw))])
+                truths = [chance.random() < 0.7 for _ in range(count)]
+                bits = bytearray((count + 7) // 8)
+                for row in filter(truths.__getitem__, range(count)):
+                    bits[row >> 3] |= 1 << (row & 7)
+                for given in None, array.array("B", bits):
+                    found = TextColumn(bytearray(b"".join(raw)), offsets, given, encoding)
+                    wanted = [it if encoding is None else it.decode(encoding) for it in raw]
+                    if given is not None:
+                        wanted = [it if kept else None for it, kept in zip(wanted, truths)]
+                    self.assertEqual(found.tolist(), wanted)
+                    self.assertEqual([found[row] for row in range(count)], wanted)
+                    self.assertEqual(list(found), wanted)
+
+    def test_columns_of_ones_own(self):
+        """Their places may be anything: then a list has what slices of the bytes are."""
+        for offsets, wanted in (
+            (array.array("q", [0, 2, 9]), ["ab", "c"]), (array.array("q", [3, 1, 2]), ["", "b"]),
+            (array.array("q", [-2, 3]), ["bc"]), (array.array("i", [0, 1, 3]), ["a", "bc"]),
+            (array.array("q", [2**62, 2**63 - 1]), [""]), (array.array("q", [0]), []),
+        ):
+            found = TextColumn(bytearray(b"abc"), offsets)
+            self.assertEqual(found.tolist(), wanted)
+            self.assertEqual(found.tolist(), list(found))
+        short = TextColumn(bytearray(b"abc"), array.array("q", range(4)), b"")
+        self.assertRaises(IndexError, short.tolist)
+        wrong = TextColumn(bytearray(b"a\xffc"), array.array("q", range(4)))
+        self.assertRaises(UnicodeDecodeError, wrong.tolist)
+        wrong.data.append(7)  # (no buffer is kept)
+        unknown = TextColumn(bytearray(), array.array("q", [0]), None, "x")
+        self.assertRaises(LookupError, unknown.tolist)
+
     @unittest.skipUnless(HAS["numpy"], "NumPy isn't installed")
     def test_numpy_and_pandas_have_objects(self):
         table = parse_table("a,1\n,2\n", {"a": Column(Text(), may_miss=True), "b": "u8"})

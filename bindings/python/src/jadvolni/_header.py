@@ -2,6 +2,7 @@
 
 from __future__ import annotations
 
+import re
 from collections import Counter
 from itertools import chain
 from typing import TYPE_CHECKING, Iterator, Sequence
@@ -34,13 +35,14 @@ def _name(cell: bytes, how: How) -> str:
         cell = cell.strip(b" \t")
     if how.has_quotes and len(cell) > 1 and cell[:1] == cell[-1:] == b'"':
         cell = cell[1:-1].replace(b'""', b'"')
+        cell = cell.strip(b" \t") if how.allows_blanks else cell
     return cell.decode("utf-8", "surrogateescape")
 
 
 def names_of(line: bytes, how: How) -> list[str]:
     """The names of a header."""
     is_ended = line.endswith(b"\n")
-    line = line.removeprefix(_MARK).removesuffix(b"\n")
+    line = line.removesuffix(b"\n")
     if how.has_returns or (how.allows_returns and is_ended):
         line = line.removesuffix(b"\r")
     separator = byte_of(b"," if how.separator is None else how.separator)
@@ -57,20 +59,43 @@ def ask_header(how: How, header: bool) -> None:
         raise ValueError("header has to be False where there are widths: they have no names")
 
 
+def _behind_empty_rows(blocks: Iterator[bytes], how: How) -> tuple[Iterator[bytes], Part]:
+    """The blocks of a text behind the empty rows in front, which the table skips, and what those
+    have."""
+    if not how.skips_empty_rows:
+        return blocks, Part()
+    end = rb"\r\n" if how.has_returns else rb"\r?\n" if how.allows_returns else rb"\n"
+    empty, left, start, lines = re.compile(b"(?:%b)+" % end), b"", 0, 0
+    for block in blocks:
+        left += block
+        if block and _MARK.startswith(left):
+            continue
+        at = len(_MARK) if start == 0 and left.startswith(_MARK) else 0
+        found = empty.match(left, at)
+        stop = found.end() if found else 0
+        is_begun = left[stop or at:] not in (b"", b"\r")
+        start, lines, left = start + stop, lines + left.count(b"\n", 0, stop), left[stop:]
+        if is_begun or not block:
+            break
+    return chain([left], blocks if block or not left else [b""]), Part(start=start, line=lines)
+
+
 def read_header(
     blocks: Iterator[bytes], how: How, size: int
 ) -> tuple[list[str], Iterator[bytes], Part]:
-    """The names of a header, the blocks behind it, and what it has in front of them.
+    """The names of a header, the blocks behind it, and what stands in front of them.
 
     A line feed within quotes doesn't end it, unless they never close.
     """
+    blocks, skipped = _behind_empty_rows(blocks, how)
     line, is_within = bytearray(), False
     for block in blocks:
         end, _, is_within = _row_ends(block, how.has_quotes, is_within)
         start = len(line)
         line += block[:end] if end else block
         if len(line) > size:
-            raise ValueError(f"the header has more than {size} bytes{_quote_in(line, is_within)}")
+            quote = _quote_in(line, skipped.start) if is_within else ""
+            raise ValueError(f"the header has more than {size} bytes{quote}")
         if end or not block:
             break
     if not line:
@@ -81,14 +106,15 @@ def read_header(
     if not end and is_within and b"\n" in line:
         end = line.index(b"\n") + 1
         line, rest = line[:end], memoryview(line[end:])
-    before = Part(start=len(line), line=line.count(b"\n"))
-    return names_of(bytes(line), how), chain([bytes(rest)] if rest else [], blocks), before
+    before = Part(start=skipped.start + len(line), line=skipped.line + line.count(b"\n"))
+    names = names_of(bytes(line if skipped.start else line.removeprefix(_MARK)), how)
+    return names, chain([bytes(rest)] if rest else [], blocks), before
 
 
-def _quote_in(line: bytes, is_within: bool) -> str:
-    """What a message says of the quote that a header doesn't close."""
-    at = line.rfind(b'"', 0, (line + b"\n").index(b"\n"))
-    return f": the quote at byte {at} may lack the one that closes it" if is_within else ""
+def _quote_in(line: bytes, start: int) -> str:
+    """What a message says of the quote that a header doesn't close, which starts at a place."""
+    at = start + line.rfind(b'"', 0, (line + b"\n").index(b"\n"))
+    return f": the quote at byte {at} may lack the one that closes it"
 
 
 def _listed(names: Sequence[str]) -> str:

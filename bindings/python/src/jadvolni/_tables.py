@@ -8,7 +8,7 @@ import stat
 import sys
 from contextlib import nullcontext, suppress
 from typing import (TYPE_CHECKING, Any, BinaryIO, Callable, ContextManager, Iterable, Iterator,
-                    Mapping, Optional, Union)
+                    Mapping, NamedTuple, Optional, Union)
 
 from ._blocks import File, _block, _blocks, _one_or_more, keep_memory
 from ._core import _row_count, _text_size
@@ -24,6 +24,23 @@ from ._threads import bytes_of, parse_in_threads, raise_changed, rows_in_threads
 if TYPE_CHECKING:
     from ._core import Text
     from ._reader import Columns
+
+
+class _Asked(NamedTuple):
+    """What a call was asked, beside the text or the file."""
+
+    columns: Columns
+    how: How
+    at: AtFault
+    header: bool
+    threads: int
+    out: Optional[Mapping[str, Any]] = None
+    size: int = 0
+    progress: Optional[Callable[[int], object]] = None
+
+    def reader(self, names: Optional[list[str]] = None) -> Reader:
+        """How the rows are read, behind a header with these names or none."""
+        return Reader(self.columns, self.how, self.at, names)
 
 
 def _writable_size(values: Any) -> int:
@@ -73,25 +90,17 @@ def _parse(
     return found.table() if out is None else found.fronts()
 
 
-def _parse_text(
-    text: Text,
-    columns: Columns,
-    how: How,
-    at: AtFault,
-    out: Optional[Mapping[str, Any]],
-    threads: int,
-    header: bool,
-) -> Table:
+def _parse_text(text: Text, asked: _Asked) -> Table:
     """The rows of a text, with a header or none."""
-    threads = _one_or_more("threads", threads)
-    ask_header(how, header)
-    if not header:
-        return _parse(Reader(columns, how, at), text, out, threads, Part())
+    threads = _one_or_more("threads", asked.threads)
+    ask_header(asked.how, asked.header)
+    if not asked.header:
+        return _parse(asked.reader(), text, asked.out, threads, Part())
     _text_size(text)  # (so that what is no text is told as ever)
     with memoryview(bytes_of(text) if isinstance(text, str) else text) as whole:
-        names, _, before = read_header(_parts(whole), how, sys.maxsize)
+        names, _, before = read_header(_parts(whole), asked.how, sys.maxsize)
         with whole[before.start:] as rest:
-            return _parse(Reader(columns, how, at, names), rest, out, threads, before)
+            return _parse(asked.reader(names), rest, asked.out, threads, before)
 
 
 def parse_table(
@@ -122,7 +131,7 @@ def parse_table(
 
     header: the first line has the names of the columns. Those of `columns` choose among them, in
     any order, and no other is read; ValueError tells of one that is missing or stands twice. A byte
-    order mark may stand before the header.
+    order mark may stand before the header, and empty rows that are skipped.
 
     has_returns: a return stands before each line feed. allows_returns: one may stand there, so that
     each row may end either way; any other is a byte of its cell. has_quotes: a cell may stand
@@ -145,7 +154,8 @@ def parse_table(
     """
     how = How(separator, has_returns, has_quotes, allows_blanks, skips_empty_rows, missing, widths,
               is_records, allows_returns)
-    return _parse_text(text, columns, how, at_fault(on_error, errors), out, threads, header)
+    asked = _Asked(columns, how, at_fault(on_error, errors), header, threads, out)
+    return _parse_text(text, asked)
 
 
 def _parts(text: memoryview) -> Iterator[bytes]:
@@ -188,17 +198,23 @@ def read_table(
     """
     how = How(separator, has_returns, has_quotes, allows_blanks, skips_empty_rows, missing, widths,
               is_records, allows_returns)
+    at = at_fault(on_error, errors, _name_of(file))
+    asked = _Asked(columns, how, at, header, threads, out, size, progress)
     if not isinstance(file, (str, os.PathLike)):
         if mmap:
             raise TypeError("file has to be a path where mmap is true")
-        at = at_fault(on_error, errors, getattr(file, "name", None))
-        return _read_opened(file, columns, how, at, out, threads, size, progress, header)
-    at = at_fault(on_error, errors, os.fsdecode(file))
+        return _read_opened(file, asked)
     with open(file, "rb") as opened:
         if not mmap:
-            return _read_opened(opened, columns, how, at, out, threads, size, progress, header)
+            return _read_opened(opened, asked)
         with _mapped(opened) as text:
-            return _parse_text(text, columns, how, at, out, threads, header)
+            return _parse_text(text, asked)
+
+
+def _name_of(file: Any) -> Any:
+    """What messages call a file, opened or by its path."""
+    is_path = isinstance(file, (str, os.PathLike))
+    return os.fsdecode(file) if is_path else getattr(file, "name", None)
 
 
 def _mapped(file: BinaryIO) -> ContextManager[Any]:
@@ -218,55 +234,45 @@ def _size_left(file: Any) -> int:
 
 
 def _opened(
-    file: File,
-    columns: Columns,
-    how: How,
-    at: AtFault,
-    size: int,
-    most: int,
-    progress: Optional[Callable[[int], object]],
-    header: bool,
+    file: File, asked: _Asked, size: int, threads: int, most: int
 ) -> tuple[Reader, Iterator[Texts], int]:
     """A file as it is read: how, by blocks of a size with rows of so many bytes at most, and how
-    many bytes its header has."""
-    ask_header(how, header)
-    blocks = _blocks(file, size, progress)
-    if not header:
-        reader = Reader(columns, how, at)
+    many bytes its header has. One thread tells the progress here, and more of them elsewhere."""
+    ask_header(asked.how, asked.header)
+    blocks = _blocks(file, size, asked.progress if threads == 1 else None)
+    if not asked.header:
+        reader = asked.reader()
         return reader, whole_rows(blocks, reader, most, Part()), 0
-    names, blocks, before = read_header(blocks, how, most)
-    reader = Reader(columns, how, at, names)
+    names, blocks, before = read_header(blocks, asked.how, most)
+    reader = asked.reader(names)
     return reader, whole_rows(blocks, reader, most, before), before.start
 
 
-def _read_opened(
-    file: File,
-    columns: Columns,
-    how: How,
-    at: AtFault,
-    out: Optional[Mapping[str, Any]],
-    threads: int,
-    size: int,
-    progress: Optional[Callable[[int], object]],
-    header: bool,
-) -> Table:
+def _told_rows(
+    asked: _Asked, reader: Reader, blocks: Iterator[Texts], start: int, rows: int, threads: int
+) -> Iterator[tuple[list[Rows], int]]:
+    """What threads read of each block, behind a header of so many bytes; the progress is told."""
+    if asked.progress and start:
+        asked.progress(start)
+    for found, block in rows_in_threads(reader, blocks, rows, threads):
+        yield found, block
+        if asked.progress and block:
+            asked.progress(block)
+
+
+def _read_opened(file: File, asked: _Asked) -> Table:
     """The rows of a file that is open."""
-    size, threads = _one_or_more("size", size), _one_or_more("threads", threads)
-    if out is not None:  # (all its rows are counted before one is written)
-        text = b"".join(_blocks(file, size, progress))
-        return _parse_text(text, columns, how, at, out, threads, header)
-    left, told = _size_left(file), progress if threads == 1 else None
-    reader, blocks, start = _opened(file, columns, how, at, size, sys.maxsize, told, header)
+    size, threads = _one_or_more("size", asked.size), _one_or_more("threads", asked.threads)
+    if asked.out is not None:  # (all its rows are counted before one is written)
+        return _parse_text(b"".join(_blocks(file, size, asked.progress)), asked)
+    left = _size_left(file)
+    reader, blocks, start = _opened(file, asked, size, threads, sys.maxsize)
     rows, left = Rows(reader), left - start
     if threads > 1:
-        if progress and start:
-            progress(start)
-        for found, block in rows_in_threads(reader, blocks, sys.maxsize, threads):
+        for found, block in _told_rows(asked, reader, blocks, start, sys.maxsize, threads):
             left -= block
             for more in found:
                 rows.append(more, left)
-            if progress and block:
-                progress(block)
         return rows.table()
     for texts in blocks:
         left -= texts.block
@@ -309,18 +315,14 @@ def iter_table(
     threads, row = _one_or_more("threads", threads), 0
     how = How(separator, has_returns, has_quotes, allows_blanks, skips_empty_rows, missing, widths,
               is_records, allows_returns)
-    told = progress if threads == 1 else None
-    at = at_fault(on_error, errors, getattr(file, "name", None))
-    reader, blocks, start = _opened(file, columns, how, at, size, size, told, header)
+    at = at_fault(on_error, errors, _name_of(file))
+    asked = _Asked(columns, how, at, header, threads, progress=progress)
+    reader, blocks, start = _opened(file, asked, size, threads, size)
     if threads > 1:
-        if progress and start:
-            progress(start)
-        for all_found, block in rows_in_threads(reader, blocks, rows, threads):
+        for all_found, _ in _told_rows(asked, reader, blocks, start, rows, threads):
             for found in all_found:
                 if found.end > found.row:
                     yield found.table()
-            if progress and block:
-                progress(block)
         return
     for texts in blocks:
         for found in read_texts(reader, texts, rows, row):

@@ -9,6 +9,7 @@ from itertools import accumulate
 from typing import TYPE_CHECKING, Any, Iterator, NamedTuple, Optional, Sequence, Union, overload
 
 from ._arrow import Arrow
+from ._core import _text_list
 
 if TYPE_CHECKING:
     from typing import SupportsIndex
@@ -105,7 +106,11 @@ class TextColumn(Sequence["Cell"]):
 
     def tolist(self) -> list[Cell]:
         """The texts as a list."""
-        return list(self)
+        is_utf8 = self.encoding is not None and codecs.lookup(self.encoding).name == "utf-8"
+        if not is_utf8 and self.encoding is not None:
+            return list(self)
+        found = _text_list(self.data, self.offsets, self.bits, len(self), is_utf8)
+        return list(self) if found is None else found
 
     def to_numpy(self) -> numpy.ndarray[Any, Any]:
         """The texts as an array of NumPy, of objects."""

@@ -6,16 +6,6 @@ use jadvolni_sys as sys;
 /// Where a cell is.
 pub(crate) type CellPlace = sys::jadvolni_cell_place;
 
-/// A row without what ends it.
-pub(crate) fn content_of_row<'t>(row: &'t [u8], dialect: &Dialect<'_>) -> &'t [u8] {
-    if dialect.0.is_records != 0 {
-        return row;
-    }
-    let takes_returns = dialect.0.has_returns != 0 || dialect.0.allows_returns != 0;
-    let Some(line) = row.strip_suffix(b"\n") else { return row };
-    line.strip_suffix(b"\r").filter(|_| takes_returns).unwrap_or(line)
-}
-
 /// How many cells a row has. Where those from a column on are goes to the front of a slice, as far as it has room.
 pub(crate) fn put_cells(
     row: &[u8],
@@ -29,9 +19,7 @@ pub(crate) fn put_cells(
         .count
 }
 
-/// The bytes of a cell of a row. What ends the row is none of them, also where a quote that nothing closes takes it.
-pub(crate) fn cell_of<'t>(row: &'t [u8], place: CellPlace, dialect: &Dialect<'_>) -> &'t [u8] {
-    let content = content_of_row(row, dialect);
-    let stop = content.len().min(place.start + place.size);
-    &content[place.start.min(stop)..stop]
+/// The bytes of a cell of a row.
+pub(crate) fn cell_of(row: &[u8], place: CellPlace) -> &[u8] {
+    &row[place.start..][..place.size]
 }

@@ -48,9 +48,14 @@ fn put_letter(f: &mut Formatter<'_>, letter: char) -> fmt::Result {
 }
 
 impl Display for Excerpt {
-    /// The bytes, where those that aren't printable ASCII are escaped, and `..` behind a text that goes on.
+    /// The bytes, those that aren't printable ASCII by their numbers, and `..` behind a text that goes on.
     fn fmt(&self, f: &mut Formatter<'_>) -> fmt::Result {
-        Display::fmt(&self.as_bytes().escape_ascii(), f)?;
+        for &byte in self.as_bytes() {
+            match byte {
+                b' '..=b'~' => f.write_char(char::from(byte))?,
+                _ => write!(f, "\\x{byte:02x}")?,
+            }
+        }
         f.write_str(if self.is_cut { ".." } else { "" })
     }
 }

@@ -3,7 +3,7 @@
 extern crate std;
 
 use crate::cell_text::folded;
-use crate::cells::{cell_of, content_of_row, put_cells, CellPlace};
+use crate::cells::{cell_of, put_cells, CellPlace};
 use crate::row_ends::RowEnds;
 use crate::{
     parse_table, parse_table_skipping, row_place, BadRow, Dialect, Skipping, Table, TableColumn,
@@ -161,7 +161,7 @@ impl Header {
         let mut unread: Vec<_> = (0..columns).map(|_| TableColumn::UNREAD).collect();
         // The library judges the row by its own rules.
         parse_table(row, dialect, &mut unread).map_err(HeaderError::Invalid)?;
-        let name = |cell| name_of(cell_of(row, cell, dialect), dialect);
+        let name = |cell| name_of(cell_of(row, cell), dialect);
         let names = cells.into_iter().map(name).collect();
         Ok(Header { names, stop: row.len() })
     }
@@ -346,7 +346,7 @@ impl<'a> DerefMut for Columns<'a> {
 
 /// Whether a row, with what ends it, is an empty one that the table skips.
 pub(crate) fn is_skipped(row: &[u8], dialect: &Dialect<'_>) -> bool {
-    dialect.0.skips_empty_rows != 0 && content_of_row(row, dialect).is_empty()
+    !row.is_empty() && row_place(row, dialect, 0).is_ok_and(|found| found.start == row.len())
 }
 
 /// What a cell holds, without its quotes and blanks.

@@ -66,7 +66,7 @@ impl Cell {
         if put_cells(row, dialect, error.column, &mut found) <= error.column {
             return None;
         }
-        let text = cell_of(row, found[0], dialect);
+        let text = cell_of(row, found[0]);
         let place = place.checked_sub(found[0].start).filter(|place| *place <= text.len())?;
         Some(Cell { text: Excerpt::of(text), place })
     }

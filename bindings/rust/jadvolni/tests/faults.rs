@@ -39,7 +39,7 @@ fn each_kind_of_fault() {
     says(
         "1,a,2\n3,\"b,4\n5,c,6\n",
         quotes,
-        r#"line 2, column 2: "\"b,4\n5,c,6": misplaced quote at byte 0 of the cell"#,
+        r#"line 2, column 2: "\"b,4\n5,c,6\n": misplaced quote at byte 0 of the cell"#,
     );
     says(
         "1,a,\"5x\"\n",

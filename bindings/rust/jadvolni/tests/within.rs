@@ -85,6 +85,7 @@ fn messages() {
         format!("{:?}", told("6\x000", &separated)),
         r#"OutOfBounds { given: "6\x000", min: 1, max: 5 }"#
     );
+    assert_eq!(told("70'000", &Format::CPP14).to_string(), "70'000 is not from 1 to 5");
     let invalid = Format::STANDARD.mantissa_radix(1);
     assert_eq!(told("6", &invalid), WithinError::Invalid(Error::InvalidMantissaRadix));
     let error: Box<dyn std::error::Error + Send + Sync> = told("6", &separated).into();
