@@ -131,6 +131,7 @@ part documents python3 tools/documents.py --check
 part house python3 tools/house.py
 part vendor vendor
 part break-off tests/break_off.py
+part lacking tests/lacking.py
 test "$failed" = 0 || { total; exit 1; }
 mkdir -p "$copy/build/wasm"
 for to in "$copy" "$copy/build/wasm"; do cp -a --parents -t "$to" crates/*/out/rlib; done 2> /dev/null
