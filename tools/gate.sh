@@ -31,9 +31,10 @@ part() { # NAME COMMAND..
     say "$name $ended after $(($(date +%s) - start)) s: $(tail -n 1 "$log")"
 }
 
-# The last line. Where a part failed, so does the gate.
+# The last line, which the SBOM of the commit quotes. Where a part failed, so does the gate.
 total() {
-    echo "$passed parts passed, $failed failed, $skipped skipped"
+    echo "$passed parts passed, $failed failed, $skipped skipped" | tee build/gate.log
+    if [ -e .git ] && [ -z "$(git status --porcelain)" ]; then git rev-parse HEAD >> build/gate.log; fi
     test "$failed" = 0
 }
 
