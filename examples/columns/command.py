@@ -2,6 +2,7 @@
 is wrong. It is a module, and no program.
 """
 
+import os
 import sys
 
 import jadvolni
@@ -23,6 +24,8 @@ def write(block: bytes) -> None:
         sys.stdout.buffer.write(block)
         sys.stdout.flush()
     except OSError as error:
+        # At its end Python writes what is buffered: where that can't fail once more.
+        os.dup2(os.open(os.devnull, os.O_WRONLY), sys.stdout.fileno())
         sys.exit(f"standard output: {error.strerror}")
 
 
