@@ -41,7 +41,7 @@ total() {
 # setup.cfg says what flake8 asks of all Python, and mypy of that under tools/ and bench/.
 lint() {
     lacking=''
-    for checker in "flake8 tools bench bindings examples" mypy; do
+    for checker in "flake8 tools bench bindings examples tests" mypy; do
         if command -v "${checker%% *}" > /dev/null; then
             $checker || return 1
         else
