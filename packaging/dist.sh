@@ -26,6 +26,11 @@ version=$(sed -n 's/.*JADVOLNI_VERSION_STRING "\(.*\)"/\1/p' include/jadvolni.h)
 for file in bindings/rust/Cargo.toml bindings/python/pyproject.toml; do
     grep -qx "version = \"$version\"" "$file" || fail "$file has another version than jadvolni.h, $version"
 done
+grep -qx "  \"version\": \"$version\"," bindings/js/package.json ||
+    fail "bindings/js/package.json has another version than jadvolni.h, $version"
+number=$(sed -n 's/.*JADVOLNI_VERSION \([0-9]*\)$/\1/p' include/jadvolni.h)
+grep -qx "    $number" crates/jadvolni/src/version.rt ||
+    fail "crates/jadvolni/src/version.rt has another version than jadvolni.h, $version"
 grep -qx "## $version" CHANGELOG.md || fail "CHANGELOG.md has no part for version $version"
 [ "${1:-}" != check ] || exit 0
 

@@ -4,10 +4,10 @@
 #     packaging/sbom.sh VERSION COMMIT TOOLCHAIN VERDICT
 #
 # VERDICT is the file with the last line of the library's proof. What the gate counted stands in
-# build/gate.log, which `make test | tee build/gate.log` leaves.
+# build/gate.log, with the commit, if `make test` ran here.
 set -eu
 cd "$(dirname "$0")/.."
-gate=$(grep ' parts passed, ' build/gate.log 2> /dev/null | tail -n 1)
+gate=$(grep -sqx "$2" build/gate.log && grep ' parts passed, ' build/gate.log || :)
 crates=$(grep -c '^[a-z]' crates.txt)
 edits=$(find crates/*/must-fail -name '*.edit' | wc -l)
 for file in dist/*; do

@@ -6,6 +6,7 @@
 # PROGRAM is jad as it was built. The exit status is 1 where a run ends in another way.
 set -eu
 
+[ -f "${1:-}" ] || { echo "usage: tests/jad.sh PROGRAM, which make jad builds" >&2; exit 2; }
 program=$(realpath "$1")
 top=$(dirname "$0")/..
 room=$(mktemp -d)

@@ -7,6 +7,7 @@
 # status is 1 where an answer is another one.
 set -eu
 
+[ -f "${1:-}" ] || { echo "usage: tests/shell_snippet.sh PROGRAM, which make lexint builds" >&2; exit 2; }
 program=$(realpath "$1")
 page=$(dirname "$0")/../crates/lexint/README.md
 room=$(mktemp -d)

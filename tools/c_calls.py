@@ -104,7 +104,7 @@ class Library:
 
     def __init__(self, path: str) -> None:
         """PATH: where libjadvolni.so is."""
-        self.library = ctypes.CDLL(path)
+        self.library = ctypes.CDLL(row_data.made(path, "lib"))
         self.library.jadvolni_format_error.restype = ctypes.c_uint32
         forms = [what + under for what in ("", "_front", "_partial")
                  for under in ("", "_with_format")]
@@ -171,4 +171,6 @@ def compare_rows(library: Library) -> str:
 
 
 if __name__ == "__main__":
+    if len(sys.argv) != 2:
+        sys.exit("usage: tools/c_calls.py LIBRARY, which is a shared one")
     print(compare_rows(Library(sys.argv[1])))

@@ -24,7 +24,8 @@ Words = Tuple[str, ...]
 
 class Case(NamedTuple):
     """A run: what the program is given, what it says to standard output, its status, what it tells
-    standard error, its arguments, and what the shell redirects."""
+    standard error, its arguments, what the shell redirects, how many KiB of memory it may take, if
+    not as many as there are, and the folder, if another one has a program of the name."""
 
     program: str
     given: bytes = b""
@@ -33,6 +34,8 @@ class Case(NamedTuple):
     told: str = ""
     words: Words = ()
     redirected: str = ""
+    memory: int = 0
+    folder: str = ""
 
 
 def adds_up(program: str, front: bytes = b"", words: Words = ()) -> Iterator[Case]:
@@ -243,12 +246,27 @@ def of_words() -> Iterator[Case]:
         yield Case("colour", b"", "30 144 255\n", 1, told, ("1e90FF", word))
 
 
-CASES = [*of_columns(), *of_exports(), *by_name(), *with_bad_rows(), *of_words()]
+def of_memory() -> Iterator[Case]:
+    """The programs that keep a row or all of their input, with too little memory for it."""
+    digits, cells = b"1" * 40_000_000, b"," * 2_000_000
+    no_memory, little = "Cannot allocate memory", 50_000
+    for program, told, words in (("sum", f"standard input: {no_memory}", ()),
+                                 ("ledger", f"memory for a row: {no_memory}", ()),
+                                 ("csv_column", f"memory for a row: {no_memory}", ("1",)),
+                                 ("bank_export", f"standard input: {no_memory}", (";,.",))):
+        yield Case(program, digits, "", 2, f"{program}: {told}", words, "", little, "c")
+    yield Case("csv_column", cells, "", 2, f"csv_column: memory for the columns: {no_memory}",
+               ("1",), "", little, "c")
+    yield Case("csv_column", digits, "", 2, "csv_column: std::bad_alloc", ("1",), "", little, "cpp")
+
+
+CASES = [*of_columns(), *of_exports(), *by_name(), *with_bad_rows(), *of_words(), *of_memory()]
 
 
 def check(place: Place, case: Case, program: str) -> None:
     """Runs a case. What a sanitizer says is told too, and fails it."""
-    command = ["sh", "-c", f'exec "$@" {case.redirected}', "sh", program, *case.words]
+    limit = f"ulimit -v {case.memory} && " if case.memory else ""
+    command = ["sh", "-c", f'{limit}exec "$@" {case.redirected}', "sh", program, *case.words]
     done = subprocess.run(command, input=case.given, stdout=subprocess.PIPE,
                           stderr=subprocess.PIPE, timeout=60, env=place.environment())
     wanted = (case.status, case.said.encode(), f"{case.told}\n".encode() if case.told else b"")
@@ -264,7 +282,9 @@ def check_folder(place: Place, folder: str, compiler: str, flags: List[str]) -> 
              if name.endswith((".c", ".cpp"))]
     programs = {name.partition(".")[0]: build(place, compiler, f"examples/{folder}/{name}", flags)
                 for name in names}
-    cases = [case for case in CASES if case.program in programs]
+    cases = [case for case in CASES if case.program in programs and case.folder in ("", folder)]
+    if "-fsanitize=address,undefined" in flags:  # (which takes more memory than any machine has)
+        cases = [case for case in cases if not case.memory]
     without = programs.keys() - {case.program for case in cases}
     if without:
         raise Failed(f"no case runs {', '.join(without)}")

@@ -25,7 +25,7 @@ from dataclasses import dataclass
 import formats_page
 import language_judges as judges
 from language_judges import Answers, Judge, c_compiler, postgres
-from row_data import BUILT, LANGUAGES, Group, groups_of, positive
+from row_data import BUILT, LANGUAGES, Group, groups_of, made, positive
 from run_rows import field_line
 
 
@@ -212,6 +212,7 @@ def main() -> int:
     known = {language.name for language in ASKED}
     if not known.issuperset(told.languages):
         sys.exit("nothing is asked for: " + ", ".join(sorted(set(told.languages) - known)))
+    made(BUILT[0], "lexint")
     asked = [language for language in ASKED if language.name in (told.languages or known)]
     untold = sum(untold_differences(language, groups[language.name], told.seed, told.literals)
                  for language in asked)

@@ -29,9 +29,9 @@ import source
 
 MOST_WORDS = 10500
 BUDGETS = {
-    "README.md": 830, "CONTRIBUTING.md": 710, "CHANGELOG.md": 200, "docs/ARCHITECTURE.md": 1060,
+    "README.md": 830, "CONTRIBUTING.md": 695, "CHANGELOG.md": 200, "docs/ARCHITECTURE.md": 1060,
     "docs/DECISIONS.md": 1590, "docs/DIFFERENCES.md": 1075, "docs/GRAMMAR.md": 1745,
-    "docs/PERF.md": 1200, "docs/PROOFS.md": 1640, "docs/RELEASING.md": 240, "docs/SPEED.md": 445,
+    "docs/PERF.md": 1200, "docs/PROOFS.md": 1640, "docs/RELEASING.md": 255, "docs/SPEED.md": 445,
 }
 # The pages that a tool writes whole. A further page of docs/ has to be in one of the two lists.
 WRITTEN = ("docs/CONTRACTS.md", "docs/FORMATS.md")
@@ -44,9 +44,9 @@ CODE_FOLDERS = ("bench/", "bindings/", "crates/", "examples/", "include/", "test
 CODE_COMMENTS = {".rt": "//", ".antt": "--", ".rs": "//", ".h": "//", ".hpp": "//", ".c": "//",
                  ".cpp": "//", ".js": "//", ".ts": "//", ".py": "#", ".pyi": "#"}
 LACKING = ("char_to_digit_const",)
-# The files with the version, in quotes, at every place where it is written.
+# The files with the version, in quotes or behind the word, at every place where it is written.
 VERSIONED = (
-    "include/jadvolni.h", "bindings/rust/Cargo.toml", "bindings/rust/Cargo.lock",
+    "README.md", "include/jadvolni.h", "bindings/rust/Cargo.toml", "bindings/rust/Cargo.lock",
     "bindings/rust/jadvolni/Cargo.toml", "bindings/python/pyproject.toml",
     "bindings/js/package.json",
 )
@@ -209,7 +209,8 @@ def wrong_versions(top: str) -> list[str]:
     """The files whose version isn't that of the changelog."""
     changes = source.read(os.path.join(top, "CHANGELOG.md"))
     wanted = set(re.findall(r"(?m)^## (\S+)", changes)[:1])
-    found = {name: set(re.findall(r'"(\d+\.\d+\.\d+)"', source.read(os.path.join(top, name))))
+    found = {name: set(re.findall(r'(?:"|version )(\d+\.\d+\.\d+)["\s,]',
+                                  source.read(os.path.join(top, name))))
              for name in VERSIONED}
     return [f"{name}: its version is {' and '.join(sorted(it)) or 'missing'}, "
             f"and that of CHANGELOG.md {' '.join(wanted) or 'missing'}"

@@ -136,10 +136,15 @@ def page(top: str, crates: list[str]) -> str:
         "# Contracts", "",
         "Each public call of each crate with its clauses, word for word as the source has them. "
         "`make docs` writes this page.", "",
-        "A clause names definitions of `specs/`: `rt lemma NAME`, in a crate that uses them, shows "
-        "one. `x.now` is what `x` points to, `self.old` and `self.new` are that at the call and "
-        "at the return, `result` is the answer. "
-        "[PROOFS.md](PROOFS.md) says what the clauses come to.", "",
+        "A clause names definitions of `specs/`: `grep -rw NAME crates/*/specs` finds one, and "
+        "`rt lemma NAME`, in a crate that uses it, shows it. std's, as `IfOk` and `length`, only "
+        "the toolchain has. `x.now` is what `x` points to, `self.old` and `self.new` are that at "
+        "the call and at the return, `result` is the answer. [PROOFS.md](PROOFS.md) says what the "
+        "clauses come to.", "",
+        "`≡` is equality, `A × B` both, `A ⊎ B` one of the two, `A → B` that B follows from A, "
+        "and `A ↔ B` that each follows from the other. `(x : A) → B` is B for every x, and "
+        "`(x : A) × B` for some x. `λ x. e` is a function, `x ∷ xs` a first item and the rest, "
+        "`xs ++ ys` one list behind another.", "",
     ]
     for crate in crates:
         found += of_crate(top, crate)

@@ -28,11 +28,10 @@ from typing import Callable, Iterable, Iterator, List, NamedTuple, Optional, Typ
 from fuzz_edges import edge_runs
 from fuzz_lines import Lines
 from fuzz_short import short_runs
-from row_data import TOP, positive
+from row_data import BUILT, TOP, made, positive
 from reference import STANDARD, TYPES
 from reference_lines import Session
 
-PROGRAM = os.path.join(TOP, "crates", "lexint", "out", "lexint")
 DRIVER = os.path.join(TOP, "tests", "from_str_radix.rs")
 # How many lines a run gets: those of a line or two meet the ends of reads, long ones full buffers.
 LINES_OF_RUNS = (1, 2, 5, 50, 1000, 20000, 20000)
@@ -304,7 +303,7 @@ def main() -> int:
     """The command line."""
     parser = argparse.ArgumentParser(
         description=__doc__, formatter_class=argparse.RawDescriptionHelpFormatter)
-    parser.add_argument("--program", default=PROGRAM)
+    parser.add_argument("--program", default=BUILT[0])
     parser.add_argument("--seed", type=int, default=random.SystemRandom().randrange(10 ** 9))
     kinds = parser.add_mutually_exclusive_group()
     kinds.add_argument("--lines", type=positive, default=200000)
@@ -312,8 +311,7 @@ def main() -> int:
     kinds.add_argument("--edges", action="store_true", help="the edges of lengths and types")
     parser.add_argument("--longest", type=positive, default=5, help="how long short texts are")
     given = parser.parse_args()
-    if not shutil.which(given.program):
-        sys.exit(f"fuzz: there is no program {given.program}: make lexint builds one")
+    made(shutil.which(given.program) or given.program, "lexint")
     if given.all:
         print(f"fuzz: all texts of up to {given.longest} bytes", flush=True)
         runs = short_runs(given.longest, max(LINES_OF_RUNS))

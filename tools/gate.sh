@@ -31,16 +31,17 @@ part() { # NAME COMMAND..
     say "$name $ended after $(($(date +%s) - start)) s: $(tail -n 1 "$log")"
 }
 
-# The last line. Where a part failed, so does the gate.
+# The last line, which the SBOM of the commit quotes. Where a part failed, so does the gate.
 total() {
-    echo "$passed parts passed, $failed failed, $skipped skipped"
+    echo "$passed parts passed, $failed failed, $skipped skipped" | tee build/gate.log
+    if [ -e .git ] && [ -z "$(git status --porcelain)" ]; then git rev-parse HEAD >> build/gate.log; fi
     test "$failed" = 0
 }
 
 # setup.cfg says what flake8 asks of all Python, and mypy of that under tools/ and bench/.
 lint() {
     lacking=''
-    for checker in "flake8 tools bench bindings examples" mypy; do
+    for checker in "flake8 tools bench bindings examples tests" mypy; do
         if command -v "${checker%% *}" > /dev/null; then
             $checker || return 1
         else
@@ -131,6 +132,7 @@ part documents python3 tools/documents.py --check
 part house python3 tools/house.py
 part vendor vendor
 part break-off tests/break_off.py
+part lacking tests/lacking.py
 test "$failed" = 0 || { total; exit 1; }
 mkdir -p "$copy/build/wasm"
 for to in "$copy" "$copy/build/wasm"; do cp -a --parents -t "$to" crates/*/out/rlib; done 2> /dev/null

@@ -73,10 +73,14 @@ TO = $(DESTDIR)$(LIBDIR)
 # A path that is no path from the root, as `~/.local` of a shell that leaves it so, or that sed, a shell or pkg-config
 # reads otherwise would be written wrong.
 STRANGE := " ' ` \ | & $$ \#
-path = $(if $(filter-out /%,$(firstword $($(1))))$(strip $(foreach character,$(STRANGE),$(findstring $(character),$($(1))))), \
+# What a shell reads within quotes.
+READ := " ` \ $$
+has = $(strip $(foreach character,$(1),$(findstring $(character),$(2))))
+path = $(if $(filter-out /%,$(firstword $($(1))))$(call has,$(STRANGE),$($(1))), \
     $(error $(1)=$($(1)): it has to begin with a slash, and to have none of $(STRANGE)))
 paths:
 	@: $(foreach name,PREFIX LIBDIR INCLUDEDIR MANDIR,$(call path,$(name)))
+	@: $(if $(call has,$(READ),$(DESTDIR)),$(error DESTDIR=$(DESTDIR): it has to have none of $(READ)))
 
 # What the templates of pkg-config, CMake and man leave open. Everyone may read what is written.
 FILL = umask 022; sed -e 's|@PREFIX@|$(PREFIX)|; s|@LIBDIR@|$(LIBDIR)|; s|@INCLUDEDIR@|$(INCLUDEDIR)|' \

@@ -38,6 +38,13 @@ Fields = Tuple[Tuple[str, int], ...]
 Format = Union[str, Fields]
 
 
+def made(path: str, target: str) -> str:
+    """A file that a target of make leaves. Where it isn't there, a sentence names the target."""
+    if not os.path.isfile(path):
+        sys.exit(f"there is no {path}: make {target} makes one")
+    return path
+
+
 def positive(word: str) -> int:
     """How much a command line asks for: a run over nothing would find nothing wrong."""
     if int(word) < 1:

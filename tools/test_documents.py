@@ -133,7 +133,7 @@ class OverRepository(unittest.TestCase):
         write(self.top, {"CHANGELOG.md": "# Changelog\n\n## 1.2.0\n\n## 1.1.0\n", **good})
         self.assertEqual(check_pages.wrong_versions(self.top), [])
         for name in check_pages.VERSIONED:
-            for other in (text.replace("1.2.0", "1.1.0", 1), "none\n"):
+            for other in (text.replace("1.2.0", "1.1.0", 1), "version 1.1.0, a port\n", "none\n"):
                 write(self.top, {**good, name: other})
                 wrong = check_pages.wrong_versions(self.top)
                 self.assertEqual([it.partition(":")[0] for it in wrong], [name])

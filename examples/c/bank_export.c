@@ -54,7 +54,7 @@ int main(int count, char **arguments)
     };
     size_t room = 0, len = 0, bad_rows = 0;
     ssize_t got = getdelim(&text, &room, '\0', stdin); // all of it, since no NUL stands in an export
-    if (ferror(stdin)) err(2, "standard input");
+    if (ferror(stdin) || (got < 0 && !feof(stdin))) err(2, "standard input");
     if (!feof(stdin)) errx(1, "byte %zd: a NUL", got - 1);
     if (got > 0) len = (size_t)got;
     if (!(folded = malloc(len + 1))) err(2, "memory for a field");

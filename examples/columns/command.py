@@ -2,6 +2,7 @@
 is wrong. It is a module, and no program.
 """
 
+import os
 import sys
 
 import jadvolni
@@ -15,9 +16,22 @@ def ask(holds: bool, page: str) -> None:
         sys.exit(2)
 
 
+def write(block: bytes) -> None:
+    """Writes a block to standard output. Where that is refused, it is told, and the status is 1."""
+    if sys.stdout is None:
+        sys.exit("standard output is closed")
+    try:
+        sys.stdout.buffer.write(block)
+        sys.stdout.flush()
+    except OSError as error:
+        # At its end Python writes what is buffered: where that can't fail once more.
+        os.dup2(os.open(os.devnull, os.O_WRONLY), sys.stdout.fileno())
+        sys.exit(f"standard output: {error.strerror}")
+
+
 def tell(path: str, answer) -> None:
     """Prints what a function answers of a file, unless it is None; or what is wrong with the file,
-    and the status is 1."""
+    or which module isn't there, and the status is 1."""
     try:
         said = answer(path)
     except jadvolni.ParseError as error:  # (which names the file)
@@ -26,7 +40,8 @@ def tell(path: str, answer) -> None:
         sys.exit(f"{path}: {error.strerror}")
     except ValueError as error:
         sys.exit(f"{path}: {error}")
-    if sys.stdout is None:
-        sys.exit("standard output is closed")
+    except ModuleNotFoundError as error:
+        sys.exit(f"this needs {error.name}, which isn't installed")
     if said is not None:
-        print(said)
+        encoding = getattr(sys.stdout, "encoding", "utf-8")  # (where it is closed, there is none)
+        write(f"{said}\n".encode(encoding, "backslashreplace"))

@@ -40,22 +40,11 @@ def copied(file):
     yield b"\xff\xff"
 
 
-def write(block: bytes) -> None:
-    """Writes a block to standard output."""
-    if sys.stdout is None:
-        sys.exit("standard output is closed")
-    try:
-        sys.stdout.buffer.write(block)
-        sys.stdout.flush()
-    except OSError as error:
-        sys.exit(f"standard output: {error.strerror}")
-
-
 def copy(path: str) -> None:
     """Writes what a file has."""
     with open(path, "rb") as file:
         for block in copied(file):
-            write(block)
+            command.write(block)
 
 
 def main() -> None:

@@ -49,7 +49,7 @@ static std::int64_t sum_of(const std::vector<block> &blocks)
 }
 
 int main(int count, char **arguments)
-{
+try {
     auto column = jadvolni::parse<std::size_t>(count == 2 ? arguments[1] : "");
     if (!column || *column == 0) {
         std::fputs("usage: csv_column COLUMN < FILE\n", stderr);
@@ -70,4 +70,6 @@ int main(int count, char **arguments)
     if (!whole)
         errx(1, "row %zu, cell %zu, byte %zu: %s", whole.rows() + 1, whole.column() + 1, whole.place(), whole.message());
     if (std::printf("%lld\n", static_cast<long long>(sum)) < 0 || std::fflush(stdout) != 0) err(2, "standard output");
+} catch (const std::exception &refused) { // memory, or a thread
+    errx(2, "%s", refused.what());
 }

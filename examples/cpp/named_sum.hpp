@@ -40,7 +40,7 @@ void read_named(const char *name, Read read)
 
 // Prints the sum of the column that the command line of a program names.
 inline int print_sum(const char *program, int count, char **arguments, std::int64_t (*sum_of)(const char *name))
-{
+try {
     if (count != 2) {
         std::fprintf(stderr, "usage: %s NAME < FILE\n", program);
         return 2;
@@ -48,4 +48,6 @@ inline int print_sum(const char *program, int count, char **arguments, std::int6
     auto sum = sum_of(arguments[1]);
     if (std::printf("%lld\n", static_cast<long long>(sum)) < 0 || std::fflush(stdout) != 0) err(2, "standard output");
     return 0;
+} catch (const std::bad_alloc &refused) {
+    errx(2, "%s", refused.what());
 }

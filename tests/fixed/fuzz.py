@@ -3,10 +3,11 @@
     python3 tests/fixed/fuzz.py LIBRARY [COUNT [SEED]]
 
 compares all short texts over a few bytes, and then COUNT random ones, and ends with how many
-differ. slow_fixed.py has the slow reader.
+differ. LIBRARY is the shared one. slow_fixed.py has the slow reader.
 """
 from __future__ import annotations
 
+import argparse
 import ctypes
 import itertools
 import os
@@ -20,6 +21,7 @@ sys.path.insert(0, os.path.join(TOP, "tools"))
 from slow_fixed import FIXED, Fixed, number_text, read, spoilt  # noqa: E402
 from c_calls import BEFORE, CFormat, CResult, NUMBERS, STATUSES, c_format  # noqa: E402
 from reference import TYPES, Value  # noqa: E402
+from row_data import made, positive  # noqa: E402
 
 ALPHABET = b"0159.,-+x"
 SHORT = 5
@@ -50,7 +52,7 @@ class Library:
 
     def __init__(self, path: str) -> None:
         """PATH: where libjadvolni.so is."""
-        library = ctypes.CDLL(path)
+        library = ctypes.CDLL(made(path, "lib"))
         self.calls = {}
         for name in TYPES:
             for form in ("_fixed", "_fixed_front"):
@@ -105,9 +107,13 @@ def all_texts(count: int, seed: int) -> Iterator[tuple[str, bytes, bytes]]:
 
 def main() -> int:
     """The comparison; its status is 1 where answers differ."""
-    library = Library(sys.argv[1])
-    count = int(sys.argv[2]) if len(sys.argv) > 2 else 1_000_000
-    seed = int(sys.argv[3]) if len(sys.argv) > 3 else 1
+    parser = argparse.ArgumentParser(
+        description=__doc__, formatter_class=argparse.RawDescriptionHelpFormatter)
+    parser.add_argument("library", metavar="LIBRARY")
+    parser.add_argument("count", metavar="COUNT", nargs="?", type=positive, default=1_000_000)
+    parser.add_argument("seed", metavar="SEED", nargs="?", type=int, default=1)
+    given = parser.parse_args()
+    library, count, seed = Library(given.library), given.count, given.seed
     in_c = {name: c_fixed(fixed) for name, fixed in FIXED.items()}
     compared = differ = 0
     for name, kind, text in all_texts(count, seed):

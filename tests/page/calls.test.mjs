@@ -1,11 +1,11 @@
-// The calls that the page writes for each language: node --test tests/page
+// The calls that the page writes for each language, and what it reads of an address: node --test tests/page
 import assert from "node:assert/strict";
 import { spawnSync } from "node:child_process";
 import { test } from "node:test";
 import { fileURLToPath } from "node:url";
 
 import { callIn } from "../../docs/try/src/calls.js";
-import { TYPES } from "../../docs/try/src/state.js";
+import { FIRST, stateOf, TYPES } from "../../docs/try/src/state.js";
 
 const INCLUDE = fileURLToPath(new URL("../../include", import.meta.url));
 
@@ -68,6 +68,15 @@ let answer = number_in_front::<i128>(b"1\\x002\\"\\xff?", &format);`,
 for (const [caller, written] of Object.entries(WRITTEN)) {
   test(`a call in ${caller}`, () => assert.equal(callIn(caller, CALL), written));
 }
+
+test("a flag of an address is 0 or 1, and else as if it weren't there", () => {
+  const known = { formats: [""], fields: [{ name: "literal_prefixes", kind: "flag" }] };
+  const fieldsOf = (written) => stateOf(`#literal_prefixes=${written}`, known).fields;
+  assert.deepEqual(["0", "1"].map(fieldsOf), [{ literal_prefixes: false }, { literal_prefixes: true }]);
+  for (const written of ["", "2", "01", "true", "constructor", "toString", "__proto__"]) {
+    assert.deepEqual(fieldsOf(written), FIRST.fields);
+  }
+});
 
 /** A program with each call, of every type and of each kind, in a function of its own. */
 function programOf(caller, used) {

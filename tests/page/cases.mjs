@@ -58,6 +58,7 @@ export const HOSTILE = [
   "format=<img src=x onerror=window.harmed=1>", "caller=<b>", "type=__proto__", "format=valueOf",
   "call=toString", "caller=__proto__", "__proto__=1&constructor=2&toString=3", "mantissa_radix=-1",
   "mantissa_radix=999999999999", "mantissa_radix=1e1", "mantissa_radix=", "literal_prefixes=2",
+  "literal_prefixes=constructor", "literal_octal_zero=__proto__",
   "digit_separator=%F0%9F%98%80", "digit_separator=__&base_prefix=__", "text=1&text=2&type=u8",
   "type=U64", "format=RUST", "text=\u{1F600}\u200E\u202E1", "text=\\'\\\"&caller=Python",
 ];

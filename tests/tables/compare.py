@@ -30,7 +30,7 @@ from reading import TEXTS, TOP, Bad, CellValue, Read, Target
 sys.path.insert(0, os.path.join(TOP, "tools"))
 
 from c_calls import NUMBERS, CFormat, c_format  # noqa: E402
-from row_data import positive  # noqa: E402
+from row_data import made, positive  # noqa: E402
 
 MOST_TOLD = 5
 # How many questions one run of the program answers.
@@ -55,7 +55,8 @@ Place = Tuple[int, int]
 def compiled(folder: str) -> str:
     """The program that asks the library."""
     program = os.path.join(folder, "answers")
-    source, library = f"{TOP}/tests/tables/answers.c", f"{TOP}/build/libjadvolni.a"
+    source = f"{TOP}/tests/tables/answers.c"
+    library = made(f"{TOP}/build/libjadvolni.a", "lib")
     subprocess.run([os.environ.get("CC", "cc"), "-std=c11", "-O2", "-Wall", "-Wextra", "-Werror",
                     f"-I{TOP}/include", source, library, "-o", program], check=True)
     return program

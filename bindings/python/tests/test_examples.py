@@ -364,9 +364,36 @@ class Inputs(Case):
             with self.subTest(name=name), open("/dev/full", "wb") as full:
                 path = self.folder / "input"
                 path.write_text(content)
-                status, _, errors = answer_of(name, path, *words, stdout=full)
-                self.assertNotEqual(status, 0)
-                self.assertIn("No space left on device", errors)
+                answer = answer_of(name, path, *words, stdout=full)
+                self.assertEqual(answer, (1, None, "standard output: No space left on device\n"))
+
+    def test_a_pipe_that_nobody_reads(self):
+        path = self.folder / "input"
+        for (name, *words), content in zip(COMMANDS, CONTENTS):
+            with self.subTest(name=name):
+                path.write_text(content)
+                end, pipe = os.pipe()
+                os.close(end)
+                answer = answer_of(name, path, *words, stdout=pipe)
+                os.close(pipe)
+                self.assertEqual(answer, (1, None, "standard output: Broken pipe\n"))
+
+    def test_bytes_that_the_locale_lacks(self):
+        where = {**os.environ, "PYTHONIOENCODING": "ascii"}
+        path = self.folder / "input"
+        path.write_text("Day;Amount\nHeute\u00e4;1,00\n", encoding="utf-8")
+        said = "1 entries from Heute\\xe4 to Heute\\xe4, 1.00 in all\n"
+        self.assertEqual(answer_of("accounts.py", path, env=where)[:2], (0, said))
+
+    def test_a_module_that_is_missing(self):
+        path = self.folder / "input"
+        path.write_text("1;a;2\n")
+        paths = [str(self.folder), *filter(None, [os.environ.get("PYTHONPATH")])]
+        where = {**os.environ, "PYTHONPATH": os.pathsep.join(paths)}
+        for name, module in (("frame.py", "pandas"), ("by_ranges.py", "distributed")):
+            (self.folder / f"{module}.py").write_text(f"raise ModuleNotFoundError(name='{module}')")
+            answer = answer_of(name, path, env=where)
+            self.assertEqual(answer, (1, "", f"this needs {module}, which isn't installed\n"))
 
     def test_a_closed_output(self):
         for (name, *words), content in zip((*COMMANDS, ("copy_binary.py",)), (*CONTENTS, "1;a;2")):

@@ -24,9 +24,11 @@ export const FIRST = {
   text: "18446744073709551616", type: "u64", call: "whole", format: "", fields: {}, caller: "C",
 };
 
+const FLAGS = new Map([["0", false], ["1", true]]);
+
 /** A field's value as the fragment has it, or undefined where it means nothing. */
 function fieldOf(kind, written) {
-  if (kind === "flag") return { 0: false, 1: true }[written];
+  if (kind === "flag") return FLAGS.get(written);
   if (kind === "punctuation") return written;
   return /^[0-9]{1,3}$/.test(written) && Number(written) < 256 ? Number(written) : undefined;
 }

@@ -1,0 +1,90 @@
+#!/usr/bin/env python3
+"""Runs the scripts of this tree where what they need isn't there, or with words that they refuse.
+
+Each has to end with a status other than 0 and a sentence that says what is lacking, and none with
+a traceback. Nothing is built in the copy in which they run.
+"""
+from __future__ import annotations
+
+import os
+import shutil
+import subprocess
+import sys
+import tempfile
+from typing import NamedTuple
+
+TOP = os.path.dirname(os.path.dirname(os.path.abspath(__file__)))
+LEXINT, JAD = "crates/lexint/out/lexint: make lexint makes one", "PROGRAM, which make jad builds"
+LIBRARY = "build/libjadvolni.a: make lib makes one"
+SHARED = "build/libjadvolni.so: make lib makes one"
+NEITHER = "it takes two checkouts that are built"
+RANGE = "invalid positive value: '0'"
+
+
+class Case(NamedTuple):
+    """A command, and what it has to say."""
+
+    command: str
+    told: str
+
+
+CASES = [
+    Case("python3 tools/fuzz.py", LEXINT),
+    Case("python3 tools/fuzz.py --edges --program nowhere", "no nowhere: make lexint"),
+    Case("python3 tools/fuzz.py --lines 0", RANGE),
+    Case("python3 tools/check_languages.py json", LEXINT),
+    Case("python3 tools/check_languages.py latin", "nothing is asked for: latin"),
+    Case("tools/run_rows.py", LEXINT),
+    Case("tools/run_rows.py nowhere", "nowhere: make lexint"),
+    Case("tools/devices.py", "no program is built: make lexint"),
+    Case("tools/devices.py nowhere", "no nowhere: make lexint"),
+    Case("tests/shell_snippet.sh", "which make lexint builds"),
+    Case("tests/shell_snippet.sh nowhere", "which make lexint builds"),
+    Case("tests/jad.sh", JAD),
+    Case("tests/jad.sh nowhere", JAD),
+    Case("tests/tables/compare.py", LIBRARY),
+    Case("tests/tables/compare.py --tables 0", RANGE),
+    Case("python3 tests/fixed/fuzz.py", "required: LIBRARY"),
+    Case("python3 tests/fixed/fuzz.py build/libjadvolni.so", SHARED),
+    Case("python3 tools/fuzz_c.py", SHARED),
+    Case("python3 tools/c_calls.py", "usage: "),
+    Case("python3 tools/c_calls.py build/libjadvolni.so", SHARED),
+    Case("bench/run . nowhere", f"nowhere/bench/workloads.txt: {NEITHER}"),
+    Case("bench/run . ..", NEITHER),
+    Case("bench/run .", "usage: "),
+    Case("make run RT=nowhere", "there is no `nowhere` on the PATH"),
+    Case("make lib RT=nowhere", "there is no `nowhere` on the PATH"),
+    Case("make test RT=nowhere", "there is no `nowhere` on the PATH"),
+    Case("make bench RT=nowhere", "there is no `nowhere` on the PATH"),
+    Case("make test-dist", "there is no dist/SHA256SUMS; make dist writes it"),
+    Case("make dist", "make dist: "),
+    Case("make tag", "no dist of this commit"),
+    Case("make vendor", "DEST='' is no folder"),
+    Case("make vendor DEST=/proc", "/proc can't be written to"),
+    Case("make vendor DEST=. WITH=nothing", "WITH has nothing, which is none of "),
+    Case("make install PREFIX=usr", "PREFIX=usr: it has to begin with a slash"),
+]
+
+
+def wrong_of(case: Case, tree: str) -> str:
+    """What is wrong with how a command ends in a tree; nothing where it says what it has to."""
+    ran = subprocess.run(case.command.split(), cwd=tree, stdin=subprocess.DEVNULL, timeout=60,
+                         stdout=subprocess.PIPE, stderr=subprocess.STDOUT, errors="replace")
+    if ran.returncode and case.told in ran.stdout and "Traceback" not in ran.stdout:
+        return ""
+    return f"{case.command}: status {ran.returncode}, without '{case.told}':\n{ran.stdout}"
+
+
+def main() -> int:
+    """Says what is wrong, and answers the exit status."""
+    with tempfile.TemporaryDirectory() as folder:
+        tree = os.path.join(folder, "a tree")
+        unbuilt = shutil.ignore_patterns(".git", "build", "dist", "out", "target")
+        shutil.copytree(TOP, tree, symlinks=True, ignore=unbuilt)
+        wrong = list(filter(None, (wrong_of(case, tree) for case in CASES)))
+    print(*wrong, f"{len(CASES)} commands that lack something, {len(wrong)} to mend", sep="\n")
+    return 1 if wrong else 0
+
+
+if __name__ == "__main__":
+    sys.exit(main())
