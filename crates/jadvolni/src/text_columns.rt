@@ -56,10 +56,11 @@ impl ColumnFields<'_> {
             },
         );
     }
+
     // Puts where a text without quotes stands into a row's place of a column of texts, and sets the row's bit. Texts stay out of
     // the way of numbers.
-    #[inline(never)]
     #[tactic(auto, using(lexical_tables::proofs::CodeSteps::text_code))]
+    #[inline(never)]
     pub(crate) fn put_whole_text(&mut self, row: usize, start: usize, size: usize)
         requires text { keeps_text (target_of self.old) ≡ true }
         requires usable { IsUsable (row + 1) (target_of self.old) }
