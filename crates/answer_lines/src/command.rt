@@ -91,7 +91,7 @@ fn short_type_and_text(text: &[u8]) -> Option<(TypeName, &[u8])>
     }
 }
 
-// The type and the text behind it for a name of any length. Why out of line: docs/DECISIONS.md, code.
+// The type and the text behind it for a name of any length: out of line, since short names are read in place.
 #[inline(never)]
 fn any_type_and_text(text: &[u8]) -> Option<(TypeName, &[u8])>
     ensures { option_map (λ found. (found.0, found.1.now)) result ≡ type_and_text text.now }

@@ -4,8 +4,9 @@ use crate::case::How;
 use crate::number::Number;
 use crate::seen::Seen;
 use crate::turns::Call;
+use crate::valid::ValidFormat;
 use lexical_parse_integer::parse::ParseInteger;
-use lexical_parse_integer::{Error, NumberFormat, options};
+use lexical_parse_integer::{Error, options};
 use lexical_tables::{Numbers, TableColumn, Target, put_cell};
 
 // Adds what is answered of a cell.
@@ -21,40 +22,40 @@ fn take_cell<T: Number>(seen: &mut Seen, fault: Option<Error>, value: Option<&T>
     }
 }
 
-// Reads a cell in front of a text by its target, if the format is valid and there is room.
+// Reads a cell in front of a text by its target, if there is room.
 #[inline(always)]
-fn read<'a>(text: &[u8], format: &NumberFormat, how: &How, values: &'a mut [i64]) -> Option<Error> {
+fn read<'a>(text: &[u8], format: &ValidFormat, how: &How, values: &'a mut [i64]) -> Option<Error> {
     let cell = text.get(..how.cell)?;
-    if !format.is_valid() || values.is_empty() {
+    if values.is_empty() {
         return None;
     }
     let mut target = Some(Target {
-        format: *format,
+        format: *format.get(),
         numbers: Numbers::I64(values),
         present: None,
     });
     target.read(0, 0, cell, text, &options::STANDARD)
 }
 
-// Puts the number of a cell in front of a text, if the format is valid and there is room.
+// Puts the number of a cell in front of a text, if there is room.
 #[inline(always)]
 fn put<T: ParseInteger>(
     text: &[u8],
-    format: &NumberFormat,
+    format: &ValidFormat,
     how: &How,
     values: &mut [T],
 ) -> Option<Error> {
     let cell = text.get(..how.cell)?;
-    if !format.is_valid() || values.is_empty() {
+    if values.is_empty() {
         return None;
     }
-    put_cell::<T>(values, 0, 0, cell, text, format, &options::STANDARD)
+    put_cell::<T>(values, 0, 0, cell, text, format.get(), &options::STANDARD)
 }
 
 /// `TableColumn::read` of a target.
 #[derive(Drop)]
 pub struct ReadCell {
-    pub format: NumberFormat,
+    pub format: ValidFormat,
     pub how: How,
     pub values: Vec<i64>,
 }
@@ -70,7 +71,7 @@ impl Call<i64> for ReadCell {
 /// `put_cell`.
 #[derive(Drop)]
 pub struct PutCell<T: Drop> {
-    pub format: NumberFormat,
+    pub format: ValidFormat,
     pub how: How,
     pub values: Vec<T>,
 }

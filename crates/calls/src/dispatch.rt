@@ -9,6 +9,7 @@ use crate::single::{Complete, Front, FrontUnder, NumberInFront, Whole, WholeUnde
 use crate::sources::{EachLine, EachToken, EachTokenUnder, LiteralInFront};
 use crate::tables::{NoneOfThree, OneColumn, OwnColumn, Place, ThreeColumns, TwoOfThree};
 use crate::turns::{MANY, Nothing, counted};
+use crate::valid::ValidFormat;
 use answer_lines::TypeName;
 use lexical_parse_integer::parse::ParseInteger;
 use lexical_parse_integer::{FromLexicalWithOptions, Options};
@@ -43,7 +44,10 @@ fn of_one<T: FromLexicalWithOptions<Options = Options> + ParseInteger + Number +
         b"number_in_front" => {
             counted::<T, NumberInFront>(&mut NumberInFront { format }, texts, size)
         }
-        b"parse_complete" => counted::<T, Complete>(&mut Complete { format }, texts, size),
+        b"parse_complete" => {
+            let format = ValidFormat::new(format)?;
+            counted::<T, Complete>(&mut Complete { format }, texts, size)
+        }
         b"Fields" => counted::<T, EachField>(
             &mut EachField {
                 format,
@@ -65,6 +69,9 @@ fn of_column<T: ParseInteger + Number + Drop>(
     let (format, how, size) = (case.format, case.how, case.text.len());
     let values = vec![in alloc; T::ZERO; how.rows]?;
     if case.call == b"put_cell".as_slice() {
+        let Some(format) = ValidFormat::new(format) else {
+            return Ok(None);
+        };
         let mut call = PutCell {
             format,
             how,
@@ -110,8 +117,11 @@ fn of_table(alloc: Global, case: &Case<'_>, texts: &[u8]) -> Result<Option<Seen>
 
 // What `TableColumn::read` is answered.
 fn of_cell(alloc: Global, case: &Case<'_>, texts: &[u8]) -> Result<Option<Seen>, AllocError> {
+    let Some(format) = ValidFormat::new(case.format) else {
+        return Ok(None);
+    };
     let mut call = ReadCell {
-        format: case.format,
+        format,
         how: case.how,
         values: vec![in alloc; 0; case.how.rows]?,
     };
@@ -149,7 +159,8 @@ fn of_type<T: FromLexicalWithOptions<Options = Options> + ParseInteger + Number 
     }
 }
 
-/// What a case is answered, where there is such a call. A source's cases have the type `-`.
+/// What a case is answered, where there is such a call, and a valid format where the call asks for one. A source's cases have
+/// the type `-`.
 pub fn answered(alloc: Global, case: &Case<'_>) -> Result<Option<Seen>, AllocError> {
     let copies = copies(alloc, case.text)?;
     let texts = copies.as_slice();

@@ -16,6 +16,7 @@ mod single;
 mod sources;
 mod tables;
 mod turns;
+mod valid;
 
 use crate::case::{Case, next_case};
 use crate::dispatch::answered;

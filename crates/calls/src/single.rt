@@ -3,6 +3,7 @@
 use crate::number::Number;
 use crate::seen::Seen;
 use crate::turns::Call;
+use crate::valid::ValidFormat;
 use lexical_parse_integer::parse::ParseInteger;
 use lexical_parse_integer::{
     FromLexical, FromLexicalWithOptions, NumberFormat, Options, number_in_front, options,
@@ -73,19 +74,15 @@ impl<T: FromLexicalWithOptions<Options = Options> + Number + Drop> Call<T> for N
     }
 }
 
-/// `parse_complete`, behind the question whether the format is valid.
+/// `parse_complete`.
 #[derive(Drop)]
 pub struct Complete {
-    pub format: NumberFormat,
+    pub format: ValidFormat,
 }
 
 impl<T: ParseInteger + Number + Drop> Call<T> for Complete {
     #[inline(always)]
     fn once(&mut self, text: &[u8], seen: &mut Seen) {
-        if let Some(error) = self.format.error() {
-            seen.take_error(error);
-        } else {
-            seen.take_answer(T::parse_complete(text, &self.format, &options::STANDARD));
-        }
+        seen.take_answer(T::parse_complete(text, self.format.get(), &options::STANDARD));
     }
 }

@@ -1,7 +1,7 @@
 //! Four or eight digits read at once, as lanes of a vector: a mask says which lanes are digits, and neighbours are
 //! joined in pairs. Lanes are widened before a step whose result wouldn't fit, so no lane wraps.
 //!
-//! Why both readers stay out of line: docs/DECISIONS.md, code.
+//! Both readers stay out of line: inlined, they make a parser too large to be inlined itself.
 ghost use Rattle.std.specs.Prelude.{◌≡◌, ◌+◌, ◌-◌, ◌*◌, ◌<◌, ◌≤◌, ◌∷◌, [], if◌then◌else◌, length, map, None, Some, true};
 ghost use Rattle.std.specs.Simd.Lanes.{Each1};
 ghost use Rattle.lexical_util.specs.Ascii.{digit_zero};

@@ -81,7 +81,7 @@ fn value_of_blocks<T: Integer>(digits: &[u8], size: usize, is_negative: bool) ->
 }
 
 /// The value of hexadecimal digits, with a minus where `is_negative`. Each range of lengths ends on its own, so
-/// that no text pays for what another one needs. Why out of line: docs/DECISIONS.md, code.
+/// that no text pays for what another one needs. Out of line, so that decimal texts don't either.
 #[inline(never)]
 pub fn value_of_nibbles<T: Integer>(digits: &[u8], is_negative: bool) -> Option<T>
     requires some { 1 ≤ length digits.now }

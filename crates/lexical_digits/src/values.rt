@@ -136,7 +136,7 @@ fn with_sixteen<T: Integer>(digits: &[u8], place: usize, value: T) -> Option<T>
 }
 
 /// The value of seventeen digits and more, with a minus where `is_negative`: a few digits, and then sixteen by
-/// sixteen. Why out of line: docs/DECISIONS.md, code.
+/// sixteen. Out of line, so that shorter numbers don't pay for it.
 #[inline(never)]
 pub fn value_from_17<T: Integer>(digits: &[u8], is_negative: bool) -> Option<T>
     requires bits { 32 < T.TYPE.bits }

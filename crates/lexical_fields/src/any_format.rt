@@ -44,7 +44,7 @@ fn number_of_field<T: ParseInteger>(field: &[u8], format: &NumberFormat) -> Resu
 }
 
 // Reads fields into a slice from its front, as far as it has room, or up to one at fault: how many numbers it has then, what
-// is left of the text, and the fault of the first field there, if that ended it. Why out of line: docs/DECISIONS.md, code.
+// is left of the text, and the fault of the first field there, if that ended it. Out of line, to keep registers for plain fields.
 #[inline(never)]
 pub(crate) fn read_any_format<'a, T: ParseInteger>(
     text: &'a [u8],

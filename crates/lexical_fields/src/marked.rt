@@ -219,7 +219,7 @@ pub fn split_marked(text: &[u8], marks: u64, separator: u8) -> (usize, &[u8], u6
 }
 
 // Reads fields into a slice behind the numbers that it has, as long as their ends are marked and each is digits alone or
-// behind a minus: how many numbers it has then, and what is left of the text. Why out of line: docs/DECISIONS.md, code.
+// behind a minus: how many numbers it has then, and what is left of the text. Out of line, so that the loop has all registers.
 #[inline(never)]
 pub(crate) fn read_marked<'a, T: ParseInteger>(
     text: &'a [u8],

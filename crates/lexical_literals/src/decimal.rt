@@ -60,7 +60,7 @@ pub(crate) fn seems_prefixed(text: &[u8]) -> bool
 }
 
 // The number of the digits that a text without a prefix begins with, and how many bytes it has, or 0 where it has no
-// room in 64 bits. Why out of line: docs/DECISIONS.md, code.
+// room in 64 bits. Out of line, so that words and blanks don't pay for it.
 #[inline(never)]
 pub(crate) fn front_of_decimal(text: &[u8], format: &NumberFormat) -> (u64, usize)
     requires first { is_some (digit 10 (slice_index text.now 0)) ≡ true }

@@ -171,8 +171,7 @@ fn number_of_groups(
     (number, stop)
 }
 
-// The number of decimal digits in front, behind whose first row a separator stands. Why out of line: docs/DECISIONS.md,
-// code.
+// The number of decimal digits in front, behind whose first row a separator stands. Out of line: most numbers have no group.
 #[inline(never)]
 pub(crate) fn decimal_groups(
     text: &[u8],
@@ -236,8 +235,7 @@ fn letter_of_prefix(byte: u8, exact: bool) -> u8
     }
 }
 
-// The number that a text begins with whose first byte is a zero in front of a letter. Why out of line: docs/DECISIONS.md,
-// code.
+// The number that a text begins with whose first byte is a zero in front of a letter. Out of line: most numbers have no prefix.
 #[inline(never)]
 pub(crate) fn front_behind_zero(text: &[u8], format: &NumberFormat) -> (u64, usize)
     requires valid { IsNone (fault format.now) }

@@ -121,8 +121,7 @@ fn number_if_short(text: &[u8], format: &NumberFormat, decimal: bool) -> (u64, u
     front_of_decimal(text, format)
 }
 
-// Such a number under any format. Where it has a separator, it is copied, so that it stays in registers. Why out of line:
-// docs/DECISIONS.md, code.
+// Such a number under any format: out of line, to keep plain numbers small. A separator is copied, so that it stays in a register.
 #[inline(never)]
 fn punctuated_number(text: &[u8], format: &NumberFormat) -> (u64, usize)
     requires valid { IsNone (fault format.now) }
@@ -138,7 +137,7 @@ fn punctuated_number(text: &[u8], format: &NumberFormat) -> (u64, usize)
     }
 }
 
-// Such a number under a format without a separator. Why out of line: docs/DECISIONS.md, code.
+// Such a number under a format without a separator. Out of line: few sources have one.
 #[inline(never)]
 fn number_without_separator(text: &[u8], format: &NumberFormat) -> (u64, usize)
     requires valid { IsNone (fault format.now) }

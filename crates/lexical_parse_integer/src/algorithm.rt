@@ -185,7 +185,7 @@ pub fn algorithm_partial<T: Integer>(
     }
 }
 
-// The partial answer for a text that the quick way leaves. Why out of line: docs/DECISIONS.md, code.
+// The partial answer for a text that the quick way leaves. Out of line, to keep callers small.
 #[inline(never)]
 fn partial_out_of_line<T: Integer>(bytes: &[u8], format: &NumberFormat) -> Result<(T, usize)>
     requires valid { IsNone (fault format.now) }
@@ -205,8 +205,8 @@ fn valid_front<T: Integer>(bytes: &[u8], format: &NumberFormat) -> Result<(T, us
 
 // ---- under the standard format
 
-// The partial answer under the standard format for such a text: the compiler knows the format in it. Why out of line:
-// docs/DECISIONS.md, code.
+// The partial answer under the standard format for such a text: the compiler knows the format in it, which callers then
+// needn't make.
 #[inline(never)]
 fn standard_front<T: Integer>(bytes: &[u8]) -> Result<(T, usize)>
     ensures { view_of (with_place T.number) result ≡ partial standard T.TYPE bytes.now }

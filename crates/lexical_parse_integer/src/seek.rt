@@ -102,7 +102,7 @@ fn run_passes(
 // What stands behind the run of separators that starts at `position`. A run is looked over once: where it passes, what
 // is sought stands behind it, and else the numeral ends before it.
 //
-// Why out of line, and the format by value: docs/DECISIONS.md, code.
+// Out of line, since runs are rare; the format by value, so that a caller keeps its own in registers.
 #[inline(never)]
 fn seek_behind_run(
     bytes: &[u8],
@@ -132,8 +132,8 @@ fn seek_behind_run(
     }
 }
 
-// What stands ahead where no digit stands at `position`: without a separator there it is the numeral's end. Why by another
-// call: docs/DECISIONS.md, code.
+// What stands ahead where no digit stands at `position`: without a separator there it is the numeral's end. A run is looked
+// over by another call, which few texts make.
 #[inline(always)]
 fn seek_behind_separator(
     bytes: &[u8],

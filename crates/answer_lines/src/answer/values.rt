@@ -110,7 +110,7 @@ where
     line_under_as::<T, N>(text, settings.format(), settings.options(), batch)
 }
 
-// That answer under the standard format. Why out of line: docs/DECISIONS.md, code.
+// That answer under the standard format, which the compiler knows here.
 #[inline(never)]
 fn standard_line_as<T, N>(text: &[u8], batch: &mut Batch)
 where

@@ -24,7 +24,7 @@ use lexical_util::format::{self, NumberFormat};
 use lexical_util::num::Integer;
 use lexical_util::result::Result;
 
-// The value under a format with punctuation. Why each reader answers in registers: docs/DECISIONS.md, code.
+// The value under a format with punctuation. Each reader answers in registers: a `Result` goes through memory.
 #[inline(always)]
 fn value_if_punctuated<T: Integer>(bytes: &[u8], format: &NumberFormat) -> Option<T>
     ensures valid { IfSome result (λ value. IsNone (fault format.now)) }
@@ -103,7 +103,7 @@ fn short_decimal<T: Integer>(
 
 // The complete answer under a decimal format without punctuation, for a text that isn't digits alone behind a minus or none.
 // Most such texts are at fault: the sign is read once, and a fault that is known is told. Zeros in front of a long number are
-// read from the front, which skips them. Why out of line: docs/DECISIONS.md, code.
+// read from the front, which skips them. Out of line, so that a value pays for no `Result`.
 #[inline(never)]
 fn complete_decimal<T: Integer>(bytes: &[u8], format: &NumberFormat) -> Result<T>
     requires plain { IsPlain format.now }
@@ -210,7 +210,7 @@ pub fn complete_if_valid<T: Integer>(bytes: &[u8], format: &NumberFormat) -> Res
 // ---- under a valid format
 
 // The complete answer under a valid format with punctuation, as one with a suffix, or with no separator: the text's head is
-// found once, and what isn't digits alone behind it is read from there. Why out of line: docs/DECISIONS.md, code.
+// found once, and what isn't digits alone behind it is read from there. Out of line, to keep callers small.
 #[inline(never)]
 fn complete_punctuated<T: Integer>(bytes: &[u8], format: &NumberFormat) -> Result<T>
     requires valid { IsNone (fault format.now) }
@@ -304,8 +304,8 @@ pub fn complete_valid<T: Integer>(bytes: &[u8], format: &NumberFormat) -> Result
     }
 }
 
-// The complete answer under a format without punctuation, for a text that isn't short decimal digits. Why out of line:
-// docs/DECISIONS.md, code.
+// The complete answer under a format without punctuation, for a text that isn't short decimal digits. Out of line, so that
+// these need no stack frame.
 #[inline(never)]
 fn complete_plain<T: Integer>(bytes: &[u8], format: &NumberFormat) -> Result<T>
     requires { IsPlain format.now }

@@ -1,6 +1,6 @@
 // Faults of decimal texts under formats without punctuation: most faults. And numbers of many digits there.
 //
-// `None` says nothing. Why each is a call of its own: docs/DECISIONS.md, code.
+// `None` says nothing. Each is a call of its own, so that texts without a fault need no stack frame.
 ghost use Rattle.std.specs.Prelude.{◌≡◌, ◌<◌, ◌≤◌, Err, IfSome, IsNone, Ok, get_or, length, take};
 ghost use Rattle.lexical_util.specs.Digit.{digit};
 ghost use Rattle.lexical_util.specs.Format.{standard};

@@ -1,0 +1,44 @@
+//! Formats that were asked once whether they are valid.
+
+ghost use Rattle.std.specs.Prelude.{IsNone};
+ghost use Rattle.lexical_util.specs.Validity.{fault};
+
+use lexical_parse_integer::NumberFormat;
+use std::marker::Model;
+
+/// A valid format, made before the calls that are counted: who parses many texts under one format asks it once.
+#[derive(Drop)]
+pub struct ValidFormat {
+    format: NumberFormat,
+}
+
+impl Model for ValidFormat {
+    ghost use Rattle.std.specs.Prelude.{IsNone};
+    ghost use Rattle.lexical_util.specs.Format.{Format};
+    ghost use Rattle.lexical_util.specs.Validity.{fault};
+
+    ghost Value = { Format };
+
+    ghost view = { λ v. v.format };
+
+    ghost invariant = { λ v. IsNone (fault v.format) };
+}
+
+impl ValidFormat {
+    /// The format, where it is valid.
+    pub fn new(format: NumberFormat) -> Option<ValidFormat> {
+        if format.is_valid() {
+            Some(ValidFormat { format })
+        } else {
+            None
+        }
+    }
+
+    /// The format.
+    #[inline(always)]
+    pub fn get(&self) -> &NumberFormat
+        ensures { IsNone (fault result.now) }
+    {
+        &self.format
+    }
+}
