@@ -341,6 +341,9 @@ pub(crate) fn behind_empty_rows<'a>(
     ensures first { FirstCounts dialect.now result.text.now }
     ensures marks { AreEndsIf marked dialect.now.has_quotes result.text.now result.marks }
 {
+    if !dialect.skips_empty_rows {
+        return left;
+    }
     let text = without_empty_rows(left.text, dialect);
     if text.len() == left.text.len() {
         return left;
