@@ -1,6 +1,6 @@
 //! Formats that were asked once whether they are valid.
 
-ghost use Rattle.std.specs.Prelude.{IsNone};
+ghost use Rattle.std.specs.Prelude.{◌≡◌, None};
 ghost use Rattle.lexical_util.specs.Validity.{fault};
 
 use lexical_parse_integer::NumberFormat;
@@ -13,7 +13,7 @@ pub struct ValidFormat {
 }
 
 impl Model for ValidFormat {
-    ghost use Rattle.std.specs.Prelude.{IsNone};
+    ghost use Rattle.std.specs.Prelude.{◌≡◌, None};
     ghost use Rattle.lexical_util.specs.Format.{Format};
     ghost use Rattle.lexical_util.specs.Validity.{fault};
 
@@ -21,7 +21,7 @@ impl Model for ValidFormat {
 
     ghost view = { λ v. v.format };
 
-    ghost invariant = { λ v. IsNone (fault v.format) };
+    ghost invariant = { λ v. fault v.format ≡ None };
 }
 
 impl ValidFormat {
@@ -37,7 +37,7 @@ impl ValidFormat {
     /// The format.
     #[inline(always)]
     pub fn get(&self) -> &NumberFormat
-        ensures { IsNone (fault result.now) }
+        ensures { fault result.now ≡ None }
     {
         &self.format
     }
