@@ -13,6 +13,7 @@ import unittest
 
 sys.dont_write_bytecode = True
 
+import calls_page  # noqa: E402
 import check_pages  # noqa: E402
 import documents  # noqa: E402
 import field_lists  # noqa: E402
@@ -173,6 +174,42 @@ class OfFields(unittest.TestCase):
         for region in field_lists.REGIONS[:5]:
             self.assertIn("later_flag", region.written([more]), region.file)
         self.assertIn("/* Flag: what is to come. */", field_lists.in_c([more]))
+
+
+class OfCalls(unittest.TestCase):
+    """The calls that are slower than at the baseline, and why."""
+
+    COUNTS = """# What was counted.
+case\tstart\tkept\tratio
+read | u8 | - | "7"\t100\t103\t1.03
+read | u8 | c | "07"\t100\t200\t2.00
+put | u8 | - | "7"*100\t100\t150\t1.50
+put | u8 | - | "8"\t100\t90\t0.90
+put | u8 | - | "9"\t\t90\t
+"""
+    CAUSES = """# Why.
+== A look: it looks.
+read | * | c | *
+
+== A step: it steps as before.
+read | *
+"""
+
+    def test_each_has_its_cause(self) -> None:
+        with tempfile.TemporaryDirectory(prefix="test-documents-") as top:
+            write(top, {calls_page.KEPT: self.COUNTS, calls_page.CAUSES: self.CAUSES})
+            page = "<!-- measured: make docs writes this from bench/calls.tsv -->\nold\n" \
+                   "<!-- end of what was measured -->\n"
+            found = calls_page.filled(top, calls_page.PAGE, page)
+        groups = [part.splitlines() for part in found.split("\n**")[1:]]
+        self.assertEqual([it[0].partition("**")[0] for it in groups],
+                         ["A look", "A step", calls_page.UNKNOWN.name])
+        self.assertEqual([it[4] for it in groups], [
+            '| `read` | `u8 c "07"` | 100 | 200 | 2.00 |',
+            '| `read` | `u8 - "7"` | 100 | 103 | 1.03 |',
+            '| `put` | `u8 - "7"*100` | 100 | 150 | 1.50 |'])
+        self.assertIn("Of 4 calls: at least 3% fewer instructions", found)
+        self.assertIn("baseline, 1; at least 3% more, 3.", found)
 
 
 class OfPages(unittest.TestCase):
