@@ -119,6 +119,20 @@ class OverRepository(unittest.TestCase):
         self.assertEqual(len(faults), 1)
         self.assertTrue(faults[0].startswith(GUIDE))
 
+    def test_definitions(self) -> None:
+        self.assertNotIn("## Definitions", self.documents()[CONTRACTS])
+        imports = "ghost use Rattle.small.specs.Halves.{half_of, third_of};\n\n"
+        used = SOURCE.replace("/// Half", imports + "/// Half", 1).replace("x / 2 }", "half_of x }")
+        write(self.top, {
+            "crates/small/src/lib.rt": used,
+            "crates/small/specs/Halves.antt":
+                "-- a third\npub third_of : ℕ → ℕ\n\n-- half of a number,\n-- or a | bar\n"
+                "abbrev pub half_of : ℕ → ℕ\nhalf_of x = x / 2\n"})
+        page = self.documents()[CONTRACTS]
+        self.assertEqual(page.splitlines()[-1], "| `half_of` | [Halves.antt](../crates/small/specs/"
+                         "Halves.antt) | half of a number, or a \\| bar |")
+        self.assertNotIn("third_of", page)
+
     def test_formats(self) -> None:
         self.assertNotIn(FORMATS, self.documents())
         write(self.top, {"tools/languages.txt": LANGUAGES})
