@@ -200,6 +200,12 @@ def page(top: str, crates: list[str]) -> str:
         "and `A ↔ B` that each follows from the other. `(x : A) → B` is B for every x, and "
         "`(x : A) × B` for some x. `λ x. e` is a function, `x ∷ xs` a first item and the rest, "
         "`xs ++ ys` one list behind another.", "",
+        "std's words: `IsTrue b`, `IsNone o` and `IsSome o` say which one it is. `IfOk r P` says "
+        "that P holds of the value, if `r` is `Ok`; so `IfErr` and `IfSome`. `OnOk r A` says A, if "
+        "`r` is `Ok`. `length`, `map`, `take n` and `drop n` are those of lists, "
+        "`slice_index xs i` and `slice_get xs i` the item at `i`. `pos n` is n as an integer. "
+        "`YieldsFirstBy` says that an iterator gives the items of its list in order. Of an integer "
+        "type `T`, `T.TYPE` is its width and sign, and `T.number x` the number that `x` is.", "",
     ]
     named = set[Definition]()
     for crate in crates:
