@@ -248,6 +248,13 @@ class OfPages(unittest.TestCase):
             self.assertEqual(len(self.faults(GOOD_PAGE + text)), 1, text[:40])
         self.assertEqual(len(self.faults(GOOD_PAGE.replace("ok 7", "ok 8"))), 1)
 
+    def test_definitions_of_modules(self) -> None:
+        table = ("| Module | Its definitions, in `specs/` |\n|---|---|\n"
+                 "| `a` | `Half`; `Third` of [other](../other/README.md) |\n| `b` | `Gone` |\n")
+        found = check_pages.wrong_definitions("crates/small/README.md", table,
+                                              {"crates/small/specs/Half.antt"})
+        self.assertEqual(found, ["crates/small/README.md: specs/ has no Gone.antt"])
+
     def test_words(self) -> None:
         made = ("<!-- block: a.rt: all -->\n```rust\nmade by a tool\n```\n"
                 "<!-- measured: x -->\n1 2 3\n<!-- end of what was measured -->\n")
