@@ -73,6 +73,11 @@ CASES = [
     Case("make vendor DEST=/proc", "/proc can't be written to"),
     Case("make vendor DEST=. WITH=nothing", "WITH has nothing, which is none of "),
     Case("make install PREFIX=usr", "PREFIX=usr: it has to begin with a slash"),
+    # From here on the tree has a bad line.
+    Case("echo ======= >> bench/causes.txt; python3 tools/documents.py",
+         "neither a cause nor a case of one: ======="),
+    Case("echo ======= >> bench/calls.tsv; python3 tools/documents.py",
+         "no call with its counts: ======="),
 ]
 
 

@@ -4,6 +4,7 @@ from __future__ import annotations
 import math
 import os
 import re
+import sys
 from typing import NamedTuple, Optional
 
 import source
@@ -15,6 +16,7 @@ PART = re.compile(r"(<!-- measured: make docs writes this from bench/calls\.tsv 
                   r"(<!-- end of what was measured -->)")
 # From which ratio to the baseline's count on a call is slower, and up to which it is faster.
 SLOWER, FASTER = 1.03, 0.97
+LINE = re.compile(r"([^\t]+)\t(\d*)\t(\d+)\t[\d.]*")
 TABLE = ["| Call | Input | Baseline | Now | Ratio |", "|---|---|---|---|---|"]
 
 
@@ -44,10 +46,15 @@ UNKNOWN = Cause("Not explained yet", "`bench/causes.txt` has no cause.", re.comp
 
 
 def counts(top: str) -> list[Row]:
-    """The calls with a count at the baseline."""
-    lines = source.read(os.path.join(top, KEPT)).splitlines()
-    rows = [line.split("\t") for line in lines if not line.startswith("#")][1:]
-    return [Row(name, int(start), int(now)) for name, start, now, _ in rows if int(start or 0)]
+    """The calls with a count at the baseline. It ends the program at a bad line."""
+    lines = enumerate(source.read(os.path.join(top, KEPT)).splitlines(), 1)
+    found = []
+    for number, line in [it for it in lines if not it[1].startswith("#")][1:]:
+        row = LINE.fullmatch(line)
+        if not row:
+            sys.exit(f"{KEPT}:{number}: no call with its counts: {line}")
+        found += [Row(row[1], int(row[2]), int(row[3]))] if int(row[2] or 0) else []
+    return found
 
 
 def pattern_of(lines: list[str]) -> re.Pattern[str]:
@@ -56,14 +63,17 @@ def pattern_of(lines: list[str]) -> re.Pattern[str]:
 
 
 def causes(top: str) -> list[Cause]:
-    """The causes of bench/causes.txt, in its order."""
-    text = re.sub(r"(?m)^#.*\n", "", source.read(os.path.join(top, CAUSES)))
-    found = []
-    for part in text.split("== ")[1:]:
-        head, *lines = filter(None, part.splitlines())
-        name, _, what = head.partition(": ")
-        found.append(Cause(name, what, pattern_of(lines)))
-    return found
+    """The causes of bench/causes.txt, in its order. It ends the program at a bad line."""
+    found: dict[str, list[str]] = {}
+    for number, line in enumerate(source.read(os.path.join(top, CAUSES)).splitlines(), 1):
+        if line.startswith("== ") and ": " in line:
+            found[line[3:]] = []
+        elif line and not line.startswith("#"):
+            if not found or " | " not in line:
+                sys.exit(f"{CAUSES}:{number}: neither a cause nor a case of one: {line}")
+            found[list(found)[-1]].append(line)
+    heads = {head: head.partition(": ") for head in found}
+    return [Cause(heads[it][0], heads[it][2], pattern_of(lines)) for it, lines in found.items()]
 
 
 def cause_of(row: Row, known: list[Cause]) -> Cause:
