@@ -222,7 +222,7 @@ def lines_of(seen: Seen) -> list[str]:
 
 
 def table(seen: Seen, unit: str) -> list[str]:
-    """The same as a table: what a reader takes where from_chars takes 1. Not each reads all."""
+    """The same as a table, relative to from_chars. Not each reader reads all texts."""
     peers = [peer for peer in next(iter(seen.values())) if peer != "from_chars"]
     rows = []
     for name, found in seen.items():
@@ -240,7 +240,7 @@ def write(kind: str, seen: Seen, asked: page.Asked, lacking: list[str], about: s
             *(f"# {one}" for one in left_out),
             "\t".join((asked.unit, "reader", f"ns a {asked.unit[:-1]}", "to from_chars"))]
     page.put(os.path.join(HERE, f"{kind}.tsv"), "\n".join([*head, *lines_of(seen)]) + "\n")
-    about += (" In the table a loop of `from_chars` takes 1. "
+    about += (" Times are relative to a loop of `from_chars`. "
               f"[{kind}.tsv](../bench/{kind}.tsv) has the nanoseconds.")
     said = [f"Measured on {on}", *left_out, "", about, "", *table(seen, asked.unit), ""]
     page.write(f"bench/{kind}.py", said)

@@ -71,7 +71,7 @@ def check_answers(found: Programs, path: str) -> None:
 
 
 def row(found: Programs, name: str, folder: str, asked: page.Asked) -> str:
-    """A line of the table: seconds of ours, and what ours takes where a peer takes 1."""
+    """A line of the table: seconds of ours, and the ratios to its peers."""
     path, few = os.path.join(folder, "lines"), os.path.join(folder, "few")
     write_lines(path, name, asked.size, asked.seed)
     write_lines(few, name, COUNTED, asked.seed)
@@ -92,8 +92,8 @@ def row(found: Programs, name: str, folder: str, asked: page.Asked) -> str:
 def write(rows: list[str], asked: page.Asked) -> None:
     """Writes bench/program.tsv and the table of docs/SPEED.md."""
     on = asked.measured_on()
-    head = ["lines", "lexint, s", "to writeln!", "to own digits", "instructions to writeln!",
-            "instructions to own digits"]
+    head = ["lines", "lexint, s", "relative to writeln!", "relative to own digits",
+            "instructions relative to writeln!", "instructions relative to own digits"]
     first = f"# The program, measured by bench/program.py on {on}"
     page.put(os.path.join(HERE, "program.tsv"), "\n".join([first, "\t".join(head), *rows]) + "\n")
     table = page.table(head, [one.split("\t") for one in rows])

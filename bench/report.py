@@ -43,7 +43,7 @@ class Seen:
 
 
 def ratio(numbers: Numbers, name: str, peer: str) -> float | None:
-    """What a peer takes, where std takes 1."""
+    """The time of a peer, relative to std."""
     row = numbers.get(name, {})
     return row[peer] / row["std"] if peer in row else None
 
@@ -140,7 +140,7 @@ def picture(seen: Seen) -> str:
         body += bars(name, ratios, place)
         place += BAR * len(ratios) + GAP
     width, height = LEFT + GREATEST * UNIT + 60, place + 20
-    title = "Time to read a text, where Rust's std takes 1 (shorter is faster)"
+    title = "Time to read a text, relative to Rust's std (shorter is faster)"
     return "\n".join([
         "<!-- What make bench saw, as a picture. -->",
         f'<svg xmlns="http://www.w3.org/2000/svg" width="{width:.0f}" height="{height}" '
@@ -153,7 +153,7 @@ def picture(seen: Seen) -> str:
 
 def first_rows(seen: Seen) -> list[str]:
     """The table of what most users have."""
-    return page.table(["where `str::parse` takes 1", *FIRST.values()], [
+    return page.table(["relative to `str::parse`", *FIRST.values()], [
         [name, *(shown(ratio(seen.small, name, peer)) for peer in FIRST)] for name in MOST])
 
 
@@ -162,7 +162,7 @@ def part(seen: Seen) -> list[str]:
     said = [f"Measured on {seen.date} by `make bench`: {seen.machine}. Seed {seen.asked.seed}, "
             f"{seen.asked.rounds} rounds.", ""]
     said += [f"Not measured: {what}." for what in seen.left_out] + ([""] if seen.left_out else [])
-    picture = "![What each takes, where std takes 1](../bench/results.svg)"
+    picture = "![Time of each parser, relative to std](../bench/results.svg)"
     return [*first_rows(seen), "", *said, picture, "", table(seen), "", slower(seen), "",
             cost_of_call(seen), ""]
 
@@ -175,21 +175,21 @@ def slower(seen: Seen) -> str:
         if faster:
             found.append(f"{name} ({', '.join(faster)})")
     if not found:
-        return "In no row is another faster."
-    return "Another is faster in these rows: " + "; ".join(found) + "."
+        return "No other parser is faster in any row."
+    return "Another parser is faster in these rows: " + "; ".join(found) + "."
 
 
 def cost_of_call(seen: Seen) -> str:
-    """What the call from C takes beside the inlined one, and where from_chars is faster than it."""
+    """What a call from C adds to the inlined one, and where from_chars is faster than it."""
     rows = {name: row for name, row in seen.small.items() if "C call" in row}
     costs = sorted((row["C call"] - row["ours"], name) for name, row in rows.items())
     (least, at_least), (middle, _), (most, at_most) = costs[0], costs[len(costs) // 2], costs[-1]
     faster = [name for name, row in rows.items()
               if row.get("from_chars", row["C call"]) < row["C call"]]
     where = "in these rows: " + "; ".join(faster) if faster else "in no row"
-    return (f"Beside the inlined call, that from C takes {middle:+.1f} ns in the median row, "
-            f"{least:+.1f} ns at least ({at_least}) and {most:+.1f} ns at most ({at_most}). "
-            f"`from_chars` is faster than it {where}.")
+    return (f"Compared with the inlined call, the call from C takes {middle:+.1f} ns in the median "
+            f"row, {least:+.1f} ns at least ({at_least}) and {most:+.1f} ns at most ({at_most}). "
+            f"`from_chars` is faster than the call from C {where}.")
 
 
 def write_all(seen: Seen) -> None:

@@ -144,11 +144,11 @@ def measured(peer: str, kind: str, asked: page.Asked) -> list[str]:
 
 def write(rows: list[list[str]], asked: page.Asked) -> None:
     """Writes the table of docs/SPEED.md."""
-    head = ["operands", "a lexer by hand, ns", "ours", "instructions: by hand / ours"]
+    head = ["operands", "hand-written lexer, ns", "ours", "instructions: hand-written / ours"]
     page.write("bench/tokens.py", [
         f"Measured on {asked.measured_on()}", "",
-        "A source is lines such as `total = 12 + (0x1F, left);`. In the table a lexer by hand "
-        "takes 1, for each token.", "", *page.table(head, rows), ""])
+        "A source is lines such as `total = 12 + (0x1F, left);`. Times are relative to a "
+        "hand-written lexer, and instructions are per token.", "", *page.table(head, rows), ""])
 
 
 def main() -> int:

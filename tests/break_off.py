@@ -66,6 +66,9 @@ def broken_off(tree: str) -> str:
 
 def main() -> int:
     """Says what is wrong, and answers the exit status."""
+    if sys.argv[1:]:
+        print(__doc__, file=sys.stderr)
+        return 2
     with tempfile.TemporaryDirectory() as tree:
         wrong = broken_off(tree)
     print(f"a build that is broken off: {wrong or 'all ends with it'}")

@@ -38,6 +38,16 @@ CASES = [
     Case("tools/run_rows.py nowhere", "nowhere: make lexint"),
     Case("tools/devices.py", "no program is built: make lexint"),
     Case("tools/devices.py nowhere", "no nowhere: make lexint"),
+    Case("tools/run_rows.py --help", "no option --help"),
+    Case("tools/devices.py --help", "no option --help"),
+    Case("python3 tools/c_calls.py --help", "no option --help"),
+    Case("python3 tools/house.py --help", "python3 tools/house.py          exit status 1"),
+    Case("python3 tools/must_not_compile.py --help", "usage: tools/must_not_compile.py"),
+    Case("python3 tools/reference_lines.py --help", "tools/reference_lines.py --check"),
+    Case("python3 tests/break_off.py --help", "Breaks off tools/build.sh"),
+    Case("python3 tools/documents.py --words > /dev/full", "No space left on device"),
+    Case("python3 tools/rows.py --check > /dev/full", "No space left on device"),
+    Case("python3 tools/house.py > /dev/full", "No space left on device"),
     Case("tests/shell_snippet.sh", "which make lexint builds"),
     Case("tests/shell_snippet.sh nowhere", "which make lexint builds"),
     Case("tests/jad.sh", JAD),
@@ -63,12 +73,18 @@ CASES = [
     Case("make vendor DEST=/proc", "/proc can't be written to"),
     Case("make vendor DEST=. WITH=nothing", "WITH has nothing, which is none of "),
     Case("make install PREFIX=usr", "PREFIX=usr: it has to begin with a slash"),
+    # From here on the tree has a bad line.
+    Case("echo ======= >> bench/causes.txt; python3 tools/documents.py",
+         "neither a cause nor a case of one: ======="),
+    Case("echo ======= >> bench/calls.tsv; python3 tools/documents.py",
+         "no call with its counts: ======="),
 ]
 
 
 def wrong_of(case: Case, tree: str) -> str:
     """What is wrong with how a command ends in a tree; nothing where it says what it has to."""
-    ran = subprocess.run(case.command.split(), cwd=tree, stdin=subprocess.DEVNULL, timeout=60,
+    words = ["sh", "-c", case.command] if ">" in case.command else case.command.split()
+    ran = subprocess.run(words, cwd=tree, stdin=subprocess.DEVNULL, timeout=60,
                          stdout=subprocess.PIPE, stderr=subprocess.STDOUT, errors="replace")
     if ran.returncode and case.told in ran.stdout and "Traceback" not in ran.stdout:
         return ""
@@ -77,6 +93,9 @@ def wrong_of(case: Case, tree: str) -> str:
 
 def main() -> int:
     """Says what is wrong, and answers the exit status."""
+    if sys.argv[1:]:
+        print(__doc__, file=sys.stderr)
+        return 2
     with tempfile.TemporaryDirectory() as folder:
         tree = os.path.join(folder, "a tree")
         unbuilt = shutil.ignore_patterns(".git", "build", "dist", "out", "target")

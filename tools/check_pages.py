@@ -4,6 +4,8 @@
   web aren't followed.
 - A name in backquotes that looks like a file or a folder has to be the end of the path of one. What
   runs and installers make is in MADE.
+- In a README of a crate, a table's column of definitions "in `specs/`" names files of that folder;
+  what is of another crate stands before its link.
 - A name in backquotes that looks like a function has to stand in the code, and not in the comment
   at a line's end alone. What the Rust crate has, and this repository lacks, is in LACKING. `T`
   stands for the name of a type.
@@ -29,7 +31,7 @@ import source
 
 MOST_WORDS = 10500
 BUDGETS = {
-    "README.md": 830, "CONTRIBUTING.md": 695, "CHANGELOG.md": 200, "docs/ARCHITECTURE.md": 1060,
+    "README.md": 830, "CONTRIBUTING.md": 695, "CHANGELOG.md": 200, "docs/ARCHITECTURE.md": 1110,
     "docs/DECISIONS.md": 1590, "docs/DIFFERENCES.md": 1075, "docs/GRAMMAR.md": 1745,
     "docs/PERF.md": 1200, "docs/PROOFS.md": 1640, "docs/RELEASING.md": 255, "docs/SPEED.md": 445,
 }
@@ -62,6 +64,8 @@ RUN = re.compile(r"(?ms)^\$ printf '([^'\n]*)' \| (?:make run|lexint)\n(.*?)(?=^
 FILE = re.compile(r"(?:[\w.*-]+/)*[\w*-][\w.*-]*\."
                   r"(?:md|rt|antt|py|sh|txt|mk|edit|c|h|hpp|cpp|rs|toml|json|tsv|svg|in|a|so|log)")
 FOLDER = re.compile(r"(?:[\w.*-]+/)+")
+# The lines of a table whose last column has definitions.
+DEFINITIONS = re.compile(r"(?m)^\|.*in `specs/` \|\n((?:\|.*\n)+)")
 FIGURE = re.compile(r"(?<![\w.,-])\d+(?:[.,]\d+)*")
 CLAUSE = re.compile(r"(?:\w+::)*([a-z]\w*): (\w+)")
 # Several words, or a module or a type before the name, or brackets behind it.
@@ -128,6 +132,17 @@ def wrong_names(page: str, text: str, files: set[str]) -> list[str]:
     """The names of a page that no file has."""
     return [f"{page}: no file is named `{name}`"
             for name in names_in(text) if not is_there(name, files)]
+
+
+def wrong_definitions(page: str, text: str, files: set[str]) -> list[str]:
+    """The files that a README of a crate names as its definitions, and that its specs/ lacks."""
+    found = []
+    for table in DEFINITIONS.findall(text):
+        cells = [re.sub(r"[^;|]*\[", "", line.split(" | ")[-1]) for line in table.splitlines()[1:]]
+        names = re.findall(r"`([A-Z]\w*)`", " ".join(cells))
+        found += [f"{page}: specs/ has no {it}.antt" for it in names
+                  if f"{posixpath.dirname(page)}/specs/{it}.antt" not in files]
+    return found
 
 
 def code_words(top: str, names: list[str]) -> set[str]:
@@ -232,6 +247,7 @@ def faults(pages: dict[str, str], names: list[str], words: set[str],
         found += wrong_links(page, text, pages, files)
         if page not in WRITTEN:
             found += wrong_names(page, text, files) + wrong_functions(page, text, words)
+            found += wrong_definitions(page, text, files) if page.startswith("crates/") else []
             found += wrong_clauses(page, text, clauses) + wrong_runs(page, text)
     found += wrong_figures(pages.get("README.md", ""), pages)
     return found + too_long(counts_of(pages))

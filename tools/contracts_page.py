@@ -1,9 +1,10 @@
-"""docs/CONTRACTS.md: every public call with its clauses, as they stand in the source."""
+"""docs/CONTRACTS.md: every public call with its clauses, as they stand in the source, and a list of
+the definitions that the clauses name."""
 from __future__ import annotations
 
 import os
 import re
-from typing import NamedTuple
+from typing import NamedTuple, Optional
 
 import source
 
@@ -14,6 +15,9 @@ HEADER = re.compile(
 INNER = ("lexical_digits", "answer_lines", "uses")
 GHOST = re.compile(
     r"(?m)^    ((?:ghost (?!use\b)|const |type )[^{;]*(?:\{[^{}]*(?:\{[^{}]*\}[^{}]*)*\})?);")
+
+# What a source file has of the definitions of a crate: the crate, the file and the names.
+IMPORT = re.compile(r"(?m)^ghost use Rattle\.(\w+)\.specs\.([\w.]+)\.\{([^}]*)\};")
 
 
 class Seen(NamedTuple):
@@ -39,6 +43,19 @@ class Entry(NamedTuple):
         doc = re.sub(r"\[`([^`]*)`\](?:\([^)]*\))?", r"`\1`", self.doc)
         above = [f"### `{self.title}`", "", *([doc, ""] if doc else [])]
         return [*above, "```rust", self.text, "```", ""]
+
+
+class Definition(NamedTuple):
+    """A definition: its name, the file that has it, and the comment above it."""
+
+    name: str
+    file: str
+    about: str
+
+    def line(self) -> str:
+        """A line of the table: a bar within a comment would part its cells."""
+        said = self.about.replace("|", r"\|")
+        return f"| `{self.name}` | [{os.path.basename(self.file)}](../{self.file}) | {said} |"
 
 
 def doc_above(text: str, at: int) -> str:
@@ -119,14 +136,52 @@ def handed_on(top: str, crate: str) -> set[str]:
     return set(re.findall(r"\w+", " ".join(used)))
 
 
-def of_crate(top: str, crate: str) -> list[str]:
-    """The section of a crate: what it promises and its public calls, file by file."""
+def comment_above(text: str, at: int) -> str:
+    """The comment directly above a place, as one line."""
+    lines, found = text[:at].split("\n")[:-1], list[str]()
+    while lines and lines[-1].startswith("--"):
+        found.insert(0, lines.pop().lstrip("- "))
+    return " ".join(found)
+
+
+def definition_of(top: str, crate: str, module: str, name: str) -> Optional[Definition]:
+    """A definition that a module of a crate has, if it isn't one that it hands on."""
+    file = "/".join(("crates", crate, "specs", *module.split("."))) + ".antt"
+    if not os.path.isfile(os.path.join(top, file)):
+        return None
+    text = source.read(os.path.join(top, file))
+    begin = re.search(rf"(?m)^(?:[a-z]+ )*{re.escape(name)}\b(?!.*\.\{{)", text)
+    return Definition(name, file, comment_above(text, begin.start())) if begin else None
+
+
+def named_in(top: str, text: str, clauses: str) -> set[Definition]:
+    """The definitions that some clauses of a source file name."""
+    words = set(re.findall(r"\w+", clauses))
+    return {it for crate, module, names in IMPORT.findall(text)
+            for name in re.findall(r"\w+", names) if name in words
+            for it in [definition_of(top, crate, module, name)] if it}
+
+
+def definition_lines(found: set[Definition]) -> list[str]:
+    """The list of these definitions, by their names."""
+    if not found:
+        return []
+    return ["## Definitions", "",
+            "What the clauses name, and what the comment above each definition says.", "",
+            "| Name | File | Comment |", "|---|---|---|", *(it.line() for it in sorted(found)), ""]
+
+
+def of_crate(top: str, crate: str, named: set[Definition]) -> list[str]:
+    """The section of a crate: what it promises and its public calls, file by file. Adds the
+    definitions that these name."""
     sources = source.sources_of(os.path.join(top, "crates", crate))
     seen = seen_of(sources) if crate not in INNER else Seen(set(), handed_on(top, crate))
     own_traits = set(re.findall(r"\btrait (\w+)", "\n".join(sources.values())))
-    entries = [entry for file, text in sources.items()
-               for entry in promises_of(file, text, seen, own_traits) + calls_of(file, text, seen)]
-    lines = [line for entry in entries for line in entry.lines()]
+    lines = list[str]()
+    for file, text in sources.items():
+        entries = promises_of(file, text, seen, own_traits) + calls_of(file, text, seen)
+        lines += [line for entry in entries for line in entry.lines()]
+        named |= named_in(top, text, "\n".join(it.text for it in entries))
     return [f"## {crate}", "", *lines] if lines else []
 
 
@@ -136,8 +191,8 @@ def page(top: str, crates: list[str]) -> str:
         "# Contracts", "",
         "Each public call of each crate with its clauses, word for word as the source has them. "
         "`make docs` writes this page.", "",
-        "A clause names definitions of `specs/`: `grep -rw NAME crates/*/specs` finds one, and "
-        "`rt lemma NAME`, in a crate that uses it, shows it. std's, as `IfOk` and `length`, only "
+        "A clause names definitions of `specs/`: [the list at the end](#definitions) has them, and "
+        "`rt lemma NAME`, in a crate that uses it, shows one. std's, as `IfOk` and `length`, only "
         "the toolchain has. `x.now` is what `x` points to, `self.old` and `self.new` are that at "
         "the call and at the return, `result` is the answer. [PROOFS.md](PROOFS.md) says what the "
         "clauses come to.", "",
@@ -145,7 +200,15 @@ def page(top: str, crates: list[str]) -> str:
         "and `A ↔ B` that each follows from the other. `(x : A) → B` is B for every x, and "
         "`(x : A) × B` for some x. `λ x. e` is a function, `x ∷ xs` a first item and the rest, "
         "`xs ++ ys` one list behind another.", "",
+        "std's words: `IsTrue b`, `IsNone o` and `IsSome o` say which one it is. `IfOk r P` says "
+        "that P holds of the value, if `r` is `Ok`; so `IfErr` and `IfSome`. `OnOk r A` says A, if "
+        "`r` is `Ok`. `length`, `map`, `take n` and `drop n` are those of lists, "
+        "`slice_index xs i` and `slice_get xs i` the item at `i`. `pos n` is n as an integer. "
+        "`YieldsFirstBy` says that an iterator gives the items of its list in order. Of an integer "
+        "type `T`, `T.TYPE` is its width and sign, and `T.number x` the number that `x` is.", "",
     ]
+    named = set[Definition]()
     for crate in crates:
-        found += of_crate(top, crate)
+        found += of_crate(top, crate, named)
+    found += definition_lines(named)
     return "\n".join(found).rstrip() + "\n"

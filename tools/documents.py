@@ -2,9 +2,9 @@
 """Writes the documents that are made from the source, or says where they aren't as written.
 
     tools/documents.py           writes docs/CONTRACTS.md, docs/FORMATS.md, the named code blocks
-                                 of other documents, the calls of docs/PERF.md that are dearer than
-                                 at the start, the lists of fields and statuses, and the formats of
-                                 languages in each language that has calls
+                                 of other documents, the calls of docs/PERF.md that are slower than
+                                 at the baseline, the lists of fields and statuses, and the formats
+                                 of languages in each language that has calls
     tools/documents.py --check   writes nothing, and ends with status 1 where one of them isn't as
                                  it would write it, or where check_pages.py finds something wrong
     tools/documents.py --words   prints how many words of each page were written by hand
@@ -240,4 +240,7 @@ def main(arguments: list[str]) -> int:
 
 
 if __name__ == "__main__":
-    sys.exit(main(sys.argv[1:]))
+    try:
+        sys.exit(main(sys.argv[1:]))
+    except OSError as error:
+        sys.exit(f"tools/documents.py: {error}")

@@ -112,6 +112,9 @@ def other_readers() -> Iterator[str]:
 
 def main() -> int:
     """Prints what is found, and answers the exit status."""
+    if sys.argv[1:]:
+        print(__doc__, file=sys.stderr)
+        return 2
     names = files_of(TOP)
     found = [*wide_lines(names), *long_files(names), *full_folders(names), *inner_proofs(names),
              *other_readers()]
@@ -124,4 +127,7 @@ def main() -> int:
 
 
 if __name__ == "__main__":
-    sys.exit(main())
+    try:
+        sys.exit(main())
+    except OSError as error:
+        sys.exit(f"tools/house.py: {error}")

@@ -95,6 +95,10 @@ def failures(folder: str, head: str, others: list[Program]) -> list[str]:
 
 
 def main() -> int:
+    """Says what ends otherwise, and answers the exit status."""
+    if sys.argv[1:]:
+        print(__doc__, file=sys.stderr)
+        return 2
     head, others = programs()
     with tempfile.TemporaryDirectory(prefix="must-not-compile-") as root:
         failed = failures(repository(root), head, others)

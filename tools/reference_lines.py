@@ -5,7 +5,7 @@
     python3 tools/reference_lines.py --check    compares it with the test vectors and known runs
 
 Written from docs/GRAMMAR.md and crates/lexint/README.md, as tools/reference.py says, which reads
-the texts. Needs Python 3.8 and nothing else.
+the texts. Needs Python 3.9 and nothing else.
 """
 from __future__ import annotations
 
@@ -200,6 +200,9 @@ def main() -> int:
     """The command line."""
     if sys.argv[1:] == ["--check"]:
         return check()
+    if sys.argv[1:]:
+        print(__doc__, file=sys.stderr)
+        return 2
     sys.stdout.write(output_of(sys.stdin.buffer.read()))
     return 0
 

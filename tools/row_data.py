@@ -40,6 +40,9 @@ Format = Union[str, Fields]
 
 def made(path: str, target: str) -> str:
     """A file that a target of make leaves. Where it isn't there, a sentence names the target."""
+    name = os.path.basename(path)
+    if name.startswith("-"):
+        sys.exit(f"there is no option {name}: the words are files that make {target} makes")
     if not os.path.isfile(path):
         sys.exit(f"there is no {path}: make {target} makes one")
     return path

@@ -18,7 +18,7 @@ a theorem of which a row and the definitions disagree. tools/run_rows.py has the
 answer the rows, and names the row that is wrong. The files are crates/rows/proofs/rows/FILE.antt,
 and proofs/rows.antt, which declares them; proofs/Tables.antt has the words of the theorems. The
 texts of the rows under the two presets are written to src/tests/presets.rt too, for the tests:
-the program makes no call without a format. Needs Python 3.8 and nothing else.
+the program makes no call without a format. Needs Python 3.9 and nothing else.
 """
 from __future__ import annotations
 
@@ -229,4 +229,7 @@ def main() -> None:
 
 
 if __name__ == "__main__":
-    main()
+    try:
+        main()
+    except OSError as error:
+        sys.exit(f"tools/rows.py: {error}")

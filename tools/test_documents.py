@@ -13,6 +13,7 @@ import unittest
 
 sys.dont_write_bytecode = True
 
+import calls_page  # noqa: E402
 import check_pages  # noqa: E402
 import documents  # noqa: E402
 import field_lists  # noqa: E402
@@ -118,6 +119,20 @@ class OverRepository(unittest.TestCase):
         self.assertEqual(len(faults), 1)
         self.assertTrue(faults[0].startswith(GUIDE))
 
+    def test_definitions(self) -> None:
+        self.assertNotIn("## Definitions", self.documents()[CONTRACTS])
+        imports = "ghost use Rattle.small.specs.Halves.{half_of, third_of};\n\n"
+        used = SOURCE.replace("/// Half", imports + "/// Half", 1).replace("x / 2 }", "half_of x }")
+        write(self.top, {
+            "crates/small/src/lib.rt": used,
+            "crates/small/specs/Halves.antt":
+                "-- a third\npub third_of : ℕ → ℕ\n\n-- half of a number,\n-- or a | bar\n"
+                "abbrev pub half_of : ℕ → ℕ\nhalf_of x = x / 2\n"})
+        page = self.documents()[CONTRACTS]
+        self.assertEqual(page.splitlines()[-1], "| `half_of` | [Halves.antt](../crates/small/specs/"
+                         "Halves.antt) | half of a number, or a \\| bar |")
+        self.assertNotIn("third_of", page)
+
     def test_formats(self) -> None:
         self.assertNotIn(FORMATS, self.documents())
         write(self.top, {"tools/languages.txt": LANGUAGES})
@@ -175,6 +190,42 @@ class OfFields(unittest.TestCase):
         self.assertIn("/* Flag: what is to come. */", field_lists.in_c([more]))
 
 
+class OfCalls(unittest.TestCase):
+    """The calls that are slower than at the baseline, and why."""
+
+    COUNTS = """# What was counted.
+case\tstart\tkept\tratio
+read | u8 | - | "7"\t100\t103\t1.03
+read | u8 | c | "07"\t100\t200\t2.00
+put | u8 | - | "7"*100\t100\t150\t1.50
+put | u8 | - | "8"\t100\t90\t0.90
+put | u8 | - | "9"\t\t90\t
+"""
+    CAUSES = """# Why.
+== A look: it looks.
+read | * | c | *
+
+== A step: it steps as before.
+read | *
+"""
+
+    def test_each_has_its_cause(self) -> None:
+        with tempfile.TemporaryDirectory(prefix="test-documents-") as top:
+            write(top, {calls_page.KEPT: self.COUNTS, calls_page.CAUSES: self.CAUSES})
+            page = "<!-- measured: make docs writes this from bench/calls.tsv -->\nold\n" \
+                   "<!-- end of what was measured -->\n"
+            found = calls_page.filled(top, calls_page.PAGE, page)
+        groups = [part.splitlines() for part in found.split("\n**")[1:]]
+        self.assertEqual([it[0].partition("**")[0] for it in groups],
+                         ["A look", "A step", calls_page.UNKNOWN.name])
+        self.assertEqual([it[4] for it in groups], [
+            '| `read` | `u8 c "07"` | 100 | 200 | 2.00 |',
+            '| `read` | `u8 - "7"` | 100 | 103 | 1.03 |',
+            '| `put` | `u8 - "7"*100` | 100 | 150 | 1.50 |'])
+        self.assertIn("Of 4 calls: at least 3% fewer instructions", found)
+        self.assertIn("baseline, 1; at least 3% more, 3.", found)
+
+
 class OfPages(unittest.TestCase):
     """Tests of what is asked of a page."""
 
@@ -196,6 +247,13 @@ class OfPages(unittest.TestCase):
         for text in wrong:
             self.assertEqual(len(self.faults(GOOD_PAGE + text)), 1, text[:40])
         self.assertEqual(len(self.faults(GOOD_PAGE.replace("ok 7", "ok 8"))), 1)
+
+    def test_definitions_of_modules(self) -> None:
+        table = ("| Module | Its definitions, in `specs/` |\n|---|---|\n"
+                 "| `a` | `Half`; `Third` of [other](../other/README.md) |\n| `b` | `Gone` |\n")
+        found = check_pages.wrong_definitions("crates/small/README.md", table,
+                                              {"crates/small/specs/Half.antt"})
+        self.assertEqual(found, ["crates/small/README.md: specs/ has no Gone.antt"])
 
     def test_words(self) -> None:
         made = ("<!-- block: a.rt: all -->\n```rust\nmade by a tool\n```\n"

@@ -66,7 +66,12 @@ const page = read(new URL("page.html", import.meta.url))
 
 const asked = process.argv.slice(2).join(" ");
 if (asked === "") {
-  writeFileSync(PAGE, page);
+  try {
+    writeFileSync(PAGE, page);
+  } catch (error) {
+    console.error(`docs/try/src/join.mjs: ${error.message}`);
+    process.exitCode = 1;
+  }
 } else if (asked !== "--check") {
   console.error("usage: node docs/try/src/join.mjs [--check]");
   process.exitCode = 2;
