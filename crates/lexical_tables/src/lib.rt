@@ -24,6 +24,7 @@ mod content;
 mod dialect;
 mod digit_cells;
 mod ends;
+mod far_ends;
 mod fixed_targets;
 mod fold;
 mod header;

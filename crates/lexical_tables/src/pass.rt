@@ -1,11 +1,11 @@
 //! Rows whose cells are found in one pass, and whose numbers are mostly had at once.
 
-ghost use Rattle.std.specs.Prelude.{◌≡◌, ◌≢◌, ◌==◌, ◌+◌, ◌-◌, ◌<◌, ◌≤◌, ◌^◌, ◌&&◌, ℕ, IfOk, IfSome, IsTrue, None, Some, drop, false, length, map, not, slice_index, take, true};
+ghost use Rattle.std.specs.Prelude.{◌≡◌, ◌≢◌, ◌==◌, ◌+◌, ◌-◌, ◌/◌, ◌<◌, ◌≤◌, ◌^◌, ◌&&◌, ℕ, IfOk, IfSome, IsTrue, None, Some, drop, false, length, map, not, slice_index, take, true};
 ghost use Rattle.lexical_tables.specs.ByColumn.{AreUsable, StopsAt, answer_at, column_count, columns_answer, columns_put, end_fault, fault_in, kinds_of, put_read_at, put_row, row_fault, row_values};
 ghost use Rattle.lexical_tables.specs.Codes.{AreCodes};
 ghost use Rattle.lexical_tables.specs.Ends.{AreEnds, AreEndsIf};
 ghost use Rattle.lexical_tables.specs.Quotes.{quote};
-ghost use Rattle.lexical_tables.specs.RowSoFar.{GoesOn, GoesToEnd, IsMarked, IsOnRow, IsPart};
+ghost use Rattle.lexical_tables.specs.RowSoFar.{GoesOn, GoesToEnd, IsBehind, IsMarked, IsOnRow, IsPart};
 ghost use Rattle.lexical_tables.specs.Rows.{FirstCounts, behind_piece, carriage_return, first_row, rows_from};
 
 use crate::answers::{CellFault, Table, TableError};
@@ -15,7 +15,7 @@ use crate::coded_cells::{read_coded_cell, read_left_cell};
 use crate::codes::{CODED, UNKNOWN, put_codes};
 use crate::dialect::{Dialect, Layout};
 use crate::ends::{LEAST_MARKED, next_ends};
-use crate::next_part::{Left, Part, behind_part, lacks_return, next_part};
+use crate::next_part::{Left, Part, behind_part, found_part, lacks_return, next_part};
 use crate::rows::{Row, without_empty_rows};
 use crate::targets::TableColumn;
 use lexical_parse_integer::Options;
@@ -98,9 +98,13 @@ fn read_cells_at_once<'a, C: TableColumn, const HAS_QUOTES: bool>(
     ensures codes { AreCodes dialect.now codes.now (map C.target targets.new) }
     ensures usable { AreUsable (index + 1) (map C.target targets.new) }
     ensures part { result.part.is_last ≡ true → IsPart dialect.now separator text.now
-        result.left.text.now result.left.marks result.part }
+        result.left.text.now result.part }
+    ensures few { result.part.is_last ≡ true → result.part.end < 64 }
+    ensures ends { result.part.is_last ≡ true → AreEnds dialect.now.has_quotes separator
+        (drop (result.part.end + 1) result.left.text.now)
+        (result.left.marks / 2 ^ result.part.end / 2) }
     ensures counted { first ≤ result.column }
-    ensures few { first ≤ columns → result.column ≤ columns }
+    ensures columns { first ≤ columns → result.column ≤ columns }
 {
     let mut left = from;
     let mut column = first;
@@ -129,12 +133,14 @@ fn read_cells_at_once<'a, C: TableColumn, const HAS_QUOTES: bool>(
     read_to(left, column)
 }
 
-// Tells what is wrong with the end of a row whose last cell was read: what is left of the text behind the row.
+// Tells what is wrong with the end of a row whose last cell was read, behind which this is left of the text: that is left of it
+// behind the row.
 #[inline(always)]
 fn end_row<'a>(
     start: usize,
     text: &[u8],
-    read: ReadTo<'a>,
+    read: ReadTo<'_>,
+    behind: Left<'a>,
     index: usize,
     columns: usize,
     separator: u8,
@@ -145,9 +151,10 @@ fn end_row<'a>(
     requires columns { columns ≡ column_count dialect.now.layout }
     requires few { read.column ≤ columns }
     requires within { length read.left.text.now ≤ length text.now }
-    requires part { IsPart dialect.now separator text.now read.left.text.now read.left.marks
-        read.part }
+    requires part { IsPart dialect.now separator text.now read.left.text.now read.part }
     requires last { read.part.is_last ≡ true }
+    requires behind { IsBehind dialect.now separator read.left.text.now read.part.end
+        behind.text.now behind.marks }
     requires fits { start + length text.now < 2 ^ 64 }
     ensures fault { wrong.new ≡ end_fault columns index (first_row dialect.now start text.now)
         read.entry.column None }
@@ -157,7 +164,6 @@ fn end_row<'a>(
     ensures marks { AreEnds dialect.now.has_quotes separator result.text.now result.marks }
 {
     let left = read.left.text;
-    let behind = behind_part(read.left, read.part.end);
     let lacks_return = lacks_return(left, read.part.size, dialect.has_returns);
     if read.column == columns && !lacks_return {
         return behind;
@@ -214,7 +220,15 @@ fn read_marked_row<'a, C: TableColumn, const HAS_QUOTES: bool>(
         );
         if read.part.is_last {
             return end_row(
-                start, text.text, read, index, columns, separator, dialect, wrong,
+                start,
+                text.text,
+                read,
+                behind_part(read.left, read.part.end),
+                index,
+                columns,
+                separator,
+                dialect,
+                wrong,
             );
         }
         let passed = text.text.len() - read.left.text.len();
@@ -226,7 +240,7 @@ fn read_marked_row<'a, C: TableColumn, const HAS_QUOTES: bool>(
             });
             return read.left;
         }
-        if read.left.marks == 0 {
+        let Some(found) = found_part(text.text, read.left, separator, dialect) else {
             let text = read_rest(
                 start,
                 text.text,
@@ -239,14 +253,7 @@ fn read_marked_row<'a, C: TableColumn, const HAS_QUOTES: bool>(
                 wrong,
             );
             return Left { text, marks: 0 };
-        }
-        let part = next_part(
-            text.text,
-            read.left.text,
-            read.left.marks,
-            separator,
-            dialect,
-        );
+        };
         if !read_left_cell(
             targets,
             codes,
@@ -254,25 +261,33 @@ fn read_marked_row<'a, C: TableColumn, const HAS_QUOTES: bool>(
             index,
             start + passed,
             read.left.text,
-            part.size,
+            found.part.size,
             dialect,
             options,
             wrong,
         ) {
-            return read.left;
+            return found.behind;
         }
         column = read.column + 1;
-        if part.is_last {
+        if found.part.is_last {
             let read = ReadTo {
                 left: read.left,
                 column,
-                part,
+                part: found.part,
             };
             return end_row(
-                start, text.text, read, index, columns, separator, dialect, wrong,
+                start,
+                text.text,
+                read,
+                found.behind,
+                index,
+                columns,
+                separator,
+                dialect,
+                wrong,
             );
         }
-        left = behind_part(read.left, part.end);
+        left = found.behind;
     }
 }
 
