@@ -4,6 +4,7 @@ use Rattle.std.specs.Prelude.{option_map}
 use Rattle.lexical_tables.specs.ByColumn.{answer_at, end_fault, fault_in, kinds_of, wrong_cell}
 use Rattle.lexical_fields.specs.Fields.{FieldView}
 use Rattle.lexical_tables.specs.Codes.{AreCodes}
+use Rattle.lexical_tables.specs.Ends.{AreEnds}
 use Rattle.lexical_tables.specs.RowSoFar.{IsOnRow, IsRowDone, cells_behind, count_in}
 use Rattle.lexical_tables.specs.Rows.{first_row}
 use Rattle.lexical_tables.proofs.CellsLeft.{cells_begin}
@@ -91,8 +92,8 @@ returns-then-not-read_left_cell-clause-fault g c =
     let old = map g.C.TableColumn.target c.args.targets.now in
     let before = map g.C.TableColumn.target read.new.targets in
     let put = read.ensures.put c.if-read.false c.args.start kinds old c.loop-read.invariant.4 in
-    let part = c.in-Some.found.part in
-    let cell : FieldView = record { start = c.args.start + (length text - length left); text = take part.size left } in
+    let part = c.next_part-part in
+    let cell : FieldView = record { start = c.args.start + (length text - length left); text = take part.result.size left } in
     let apart : column ≢ c.args.columns = grind (arith, nat_tests) in
     let more : column < count_in d = omega (arith, read.ensures.columns c.loop-read.invariant.5, apart, c.requires.columns) in
     let now = map g.C.TableColumn.target c.read_left_cell.new.targets in
@@ -101,7 +102,7 @@ returns-then-not-read_left_cell-clause-fault g c =
     some_wrong found c.if-not-read_left_cell.ensures.right
     (λ f. IsRowDone kinds d c.args.index row old now (option_map (wrong_cell c.args.index column) f))
     (λ fault is. after_fault kinds d c.args.index row old before column _ put cell _
-    (c.in-Some.ensures.part.cells c.args.start column) more now fault is c.read_left_cell.ensures.targets) in
+    (part.ensures.part.cells c.args.start column) more now fault is c.read_left_cell.ensures.targets) in
     c.read_left_cell.ensures.fault ∙ told.fault_is
 
 pub returns-then-not-read_left_cell-clause-targets : goal.returns-then-not-read_left_cell-clause-targets
@@ -116,8 +117,8 @@ returns-then-not-read_left_cell-clause-targets g c =
     let old = map g.C.TableColumn.target c.args.targets.now in
     let before = map g.C.TableColumn.target read.new.targets in
     let put = read.ensures.put c.if-read.false c.args.start kinds old c.loop-read.invariant.4 in
-    let part = c.in-Some.found.part in
-    let cell : FieldView = record { start = c.args.start + (length text - length left); text = take part.size left } in
+    let part = c.next_part-part in
+    let cell : FieldView = record { start = c.args.start + (length text - length left); text = take part.result.size left } in
     let apart : column ≢ c.args.columns = grind (arith, nat_tests) in
     let more : column < count_in d = omega (arith, read.ensures.columns c.loop-read.invariant.5, apart, c.requires.columns) in
     let now = map g.C.TableColumn.target c.read_left_cell.new.targets in
@@ -126,11 +127,11 @@ returns-then-not-read_left_cell-clause-targets g c =
     some_wrong found c.if-not-read_left_cell.ensures.right
     (λ f. IsRowDone kinds d c.args.index row old now (option_map (wrong_cell c.args.index column) f))
     (λ fault is. after_fault kinds d c.args.index row old before column _ put cell _
-    (c.in-Some.ensures.part.cells c.args.start column) more now fault is c.read_left_cell.ensures.targets) in
+    (part.ensures.part.cells c.args.start column) more now fault is c.read_left_cell.ensures.targets) in
     told.targets_are
 
-pub returns-then-found-clause-fault : goal.returns-then-found-clause-fault
-returns-then-found-clause-fault g c =
+pub returns-then-part-clause-fault : goal.returns-then-part-clause-fault
+returns-then-part-clause-fault g c =
     let d = c.args.dialect.now in
     let text = c.args.text.text.now in
     let read = c.read_cells_at_once-read in
@@ -141,21 +142,21 @@ returns-then-found-clause-fault g c =
     let old = map g.C.TableColumn.target c.args.targets.now in
     let before = map g.C.TableColumn.target read.new.targets in
     let put = read.ensures.put c.if-read.false c.args.start kinds old c.loop-read.invariant.4 in
-    let part = c.in-Some.found.part in
-    let cell : FieldView = record { start = c.args.start + (length text - length left); text = take part.size left } in
+    let part = c.next_part-part in
+    let cell : FieldView = record { start = c.args.start + (length text - length left); text = take part.result.size left } in
     let apart : column ≢ c.args.columns = grind (arith, nat_tests) in
     let more : column < count_in d = omega (arith, read.ensures.columns c.loop-read.invariant.5, apart, c.requires.columns) in
     let now = map g.C.TableColumn.target c.read_left_cell.new.targets in
     let fine = none_wrong _ c.if-not-read_left_cell.ensures.right in
-    let at = c.in-Some.ensures.part.cells c.args.start column
-    ∙ ap (λ t. cell ∷ cond t [] (cells_behind d row (column + 1) (length text - length (drop (part.end + 1) left)))) c.if-found.true in
+    let at = part.ensures.part.cells c.args.start column
+    ∙ ap (λ t. cell ∷ cond t [] (cells_behind d row (column + 1) (length text - length (drop (part.result.end + 1) left)))) c.if-part.true in
     let one_more = after_cell kinds d c.args.index row old before column _ put cell _ at more now fine c.read_left_cell.ensures.targets in
-    let done = row_ends kinds d c.args.index row old now (column + 1) [] one_more c.end_row-then-found.new.wrong (inl refl)
-    (c.end_row-then-found.ensures.fault ∙ ap (λ n. end_fault n c.args.index row (column + 1) None) c.requires.columns) in
+    let done = row_ends kinds d c.args.index row old now (column + 1) [] one_more c.end_row-then-part.new.wrong (inl refl)
+    (c.end_row-then-part.ensures.fault ∙ ap (λ n. end_fault n c.args.index row (column + 1) None) c.requires.columns) in
     done.fault_is
 
-pub returns-then-found-clause-targets : goal.returns-then-found-clause-targets
-returns-then-found-clause-targets g c =
+pub returns-then-part-clause-targets : goal.returns-then-part-clause-targets
+returns-then-part-clause-targets g c =
     let d = c.args.dialect.now in
     let text = c.args.text.text.now in
     let read = c.read_cells_at_once-read in
@@ -166,17 +167,17 @@ returns-then-found-clause-targets g c =
     let old = map g.C.TableColumn.target c.args.targets.now in
     let before = map g.C.TableColumn.target read.new.targets in
     let put = read.ensures.put c.if-read.false c.args.start kinds old c.loop-read.invariant.4 in
-    let part = c.in-Some.found.part in
-    let cell : FieldView = record { start = c.args.start + (length text - length left); text = take part.size left } in
+    let part = c.next_part-part in
+    let cell : FieldView = record { start = c.args.start + (length text - length left); text = take part.result.size left } in
     let apart : column ≢ c.args.columns = grind (arith, nat_tests) in
     let more : column < count_in d = omega (arith, read.ensures.columns c.loop-read.invariant.5, apart, c.requires.columns) in
     let now = map g.C.TableColumn.target c.read_left_cell.new.targets in
     let fine = none_wrong _ c.if-not-read_left_cell.ensures.right in
-    let at = c.in-Some.ensures.part.cells c.args.start column
-    ∙ ap (λ t. cell ∷ cond t [] (cells_behind d row (column + 1) (length text - length (drop (part.end + 1) left)))) c.if-found.true in
+    let at = part.ensures.part.cells c.args.start column
+    ∙ ap (λ t. cell ∷ cond t [] (cells_behind d row (column + 1) (length text - length (drop (part.result.end + 1) left)))) c.if-part.true in
     let one_more = after_cell kinds d c.args.index row old before column _ put cell _ at more now fine c.read_left_cell.ensures.targets in
-    let done = row_ends kinds d c.args.index row old now (column + 1) [] one_more c.end_row-then-found.new.wrong (inl refl)
-    (c.end_row-then-found.ensures.fault ∙ ap (λ n. end_fault n c.args.index row (column + 1) None) c.requires.columns) in
+    let done = row_ends kinds d c.args.index row old now (column + 1) [] one_more c.end_row-then-part.new.wrong (inl refl)
+    (c.end_row-then-part.ensures.fault ∙ ap (λ n. end_fault n c.args.index row (column + 1) None) c.requires.columns) in
     done.targets_are
 
 pub loop-read-preserved : goal.loop-read-preserved
@@ -191,17 +192,19 @@ loop-read-preserved g c =
     let old = map g.C.TableColumn.target c.args.targets.now in
     let before = map g.C.TableColumn.target read.new.targets in
     let put = read.ensures.put c.if-read.false c.args.start kinds old c.loop-read.invariant.4 in
-    let part = c.in-Some.found.part in
-    let cell : FieldView = record { start = c.args.start + (length text - length left); text = take part.size left } in
+    let part = c.next_part-part in
+    let cell : FieldView = record { start = c.args.start + (length text - length left); text = take part.result.size left } in
     let apart : column ≢ c.args.columns = grind (arith, nat_tests) in
     let more : column < count_in d = omega (arith, read.ensures.columns c.loop-read.invariant.5, apart, c.requires.columns) in
     let now = map g.C.TableColumn.target c.read_left_cell.new.targets in
+    let behind = c.behind_part-left in
     let fine = none_wrong _ c.if-not-read_left_cell.ensures.right in
-    let at = c.in-Some.ensures.part.cells c.args.start column
-    ∙ ap (λ t. cell ∷ cond t [] (cells_behind d row (column + 1) (length text - length (drop (part.end + 1) left)))) c.if-found.false
-    ∙ ap (λ l. cell ∷ cells_behind d row (column + 1) (length text - length l)) (sym c.in-Some.ensures.behind.text) in (
-      subst (IsOnRow d c.args.separator text) (sym c.in-Some.ensures.behind.text) (c.in-Some.ensures.part.goes c.if-found.false),
-      c.in-Some.ensures.behind.ends,
+    let at = part.ensures.part.cells c.args.start column
+    ∙ ap (λ t. cell ∷ cond t [] (cells_behind d row (column + 1) (length text - length (drop (part.result.end + 1) left)))) c.if-part.false
+    ∙ ap (λ l. cell ∷ cells_behind d row (column + 1) (length text - length l)) (sym behind.ensures.text) in (
+      subst (IsOnRow d c.args.separator text) (sym behind.ensures.text) (part.ensures.part.goes c.if-part.false),
+      subst (λ l. AreEnds d.has_quotes c.args.separator l behind.result.marks) (sym behind.ensures.text)
+          (subst (AreEnds d.has_quotes c.args.separator (drop (part.result.end + 1) left)) (sym behind.ensures.marks) part.ensures.ends),
       subst (AreCodes d c.args.codes.now) (sym c.read_left_cell.ensures.targets)
           (codes_put d c.args.codes.now c.args.index column (answer_at d (kinds_of before) column cell) before read.ensures.codes),
       c.read_left_cell.ensures.fault ∙ ap (option_map (wrong_cell c.args.index column)) (sym fine),
