@@ -52,10 +52,14 @@ module _ (description : FixedFields) (type : IntegerType) where
         ≡ answer_by (reading_of description type) text
     integer_answer none = ap (λ reading. answer_by reading text) (sym (as_integers none))
 
+    pub format_answer : (format : Format) → description.places ≡ 0 → format_of description.integer ≡ format
+        → view_of Number (field_answer format type text) ≡ answer_by (reading_of description type) text
+    format_answer format none is =
+        ap (λ format. view_of Number (field_answer format type text)) (sym is) ∙ integer_answer none
+
     pub standard_answer : description.places ≡ 0 → format_of description.integer ≡ standard
         → view_of Number (field_answer standard type text) ≡ answer_by (reading_of description type) text
-    standard_answer none is =
-        ap (λ format. view_of Number (field_answer format type text)) (sym is) ∙ integer_answer none
+    standard_answer = format_answer standard
 
     pub fixed_point_answer : description.places ≢ 0 → view_of Number (fixed_answer (fixed_of description) type text)
         ≡ answer_by (reading_of description type) text

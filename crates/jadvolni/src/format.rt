@@ -206,6 +206,19 @@ impl FormatFields {
         first == 10 && asks_for_no_literals(self)
     }
 
+    /// Whether a separator, a prefix or a suffix is surely asked for, or the prefixes of literals are. It is a first test, of
+    /// two words.
+    #[inline(always)]
+    pub(crate) fn is_surely_punctuated(&self) -> bool {
+        let first = u32::from_le_bytes([
+            self.mantissa_radix,
+            self.digit_separator,
+            self.base_prefix,
+            self.base_suffix,
+        ]);
+        first > 0xFF || self.literal_prefixes != 0
+    }
+
     /// Whether all fields but the radix are those of the standard format.
     ///
     /// The fields are asked in their order, as four words of eight bytes.

@@ -93,34 +93,6 @@ impl ColumnFields<'_> {
         }
     }
 
-    // Puts the integer of a text into a row's place, or tells the text's fault, under a format that is made field by field.
-    #[inline(never)]
-    fn put_other_number(
-        &mut self,
-        row: usize,
-        start: usize,
-        text: &[u8],
-        ahead: &[u8],
-        options: &Options,
-    ) -> Option<Error>
-        requires numbers { keeps_text (target_of self.old) ≡ false }
-        requires integers { self.old.description.places ≡ 0 }
-        requires usable { IsUsable (row + 1) (target_of self.old) }
-        requires front { text.now ≡ take (length text.now) ahead.now }
-        requires fits { start + length text.now < 2 ^ 64 }
-        ensures fault { result ≡ text_fault (target_of self.old)
-            (record { start = start; text = text.now }) }
-        ensures target { target_of self.new ≡ option_map (put_number row
-            (record { start = start; text = text.now })) (target_of self.old) }
-    {
-        let Some(_) = self.arrays.number_type() else {
-            return None;
-        };
-        let format = self.description.integer.format();
-        self.arrays
-            .put_cell(row, start, text, ahead, &format, options)
-    }
-
     // Puts the integer of a text that isn't had at once into a row's place, or tells the text's fault, under the standard
     // format.
     #[inline(always)]

@@ -1,16 +1,16 @@
 -- The first cell of a text, by the marks of the places where cells end.
-use Rattle.std.proofs.Common.{◌≡◌, ◌≢◌, ◌∙◌, ℕ, zero, suc, ◌+◌, ◌-◌, ◌*◌, ◌/◌, ◌%◌, ◌^◌, ◌==◌, ◌<◌, ◌≤◌, ◌⊎◌, not, List, [], ◌∷◌, length, length-drop, drop, get_or, get_or-drop, Bool, true, false, cond, refl, ap, ap₂, sym, arith, inl, inr}
+use Rattle.std.proofs.Common.{◌≡◌, ◌≢◌, ◌∙◌, ℕ, zero, suc, ◌+◌, ◌-◌, ◌*◌, ◌/◌, ◌%◌, ◌^◌, ◌==◌, ◌<◌, ◌≤◌, ◌⊎◌, not, List, [], ◌∷◌, length, length-drop, drop, get_or, get_or-drop, Bool, true, false, cond, refl, ap, ap₂, subst, sym, arith, inl, inr}
 use Rattle.std.specs.Prelude.{◌||◌}
 use Rattle.std.specs.Int.{bit_at}
 use Rattle.std.proofs.lemmas.Bool.{cases_lt, eqb-false, eqb-true, ne_eqb}
 use Rattle.std.proofs.lemmas.Nat.{pow-add}
-use Rattle.std.proofs.lemmas.Nat.Bits.{bit_at-zero}
+use Rattle.std.proofs.lemmas.Nat.Bits.{bit_at-zero, bit_at_above}
 use Rattle.std.proofs.Math.Nat.{pow-suc}
 use native.Mathlib.Nat.{div-div-eq-div-mul}
 use Rattle.lexical_fields.specs.Fields.{field_length}
 use Rattle.lexical_fields.proofs.FieldEnds.{field_is}
-use Rattle.lexical_tables.specs.Ends.{AreEnds, is_end}
-use Rattle.lexical_tables.specs.Quotes.{length_outside, quote, seen}
+use Rattle.lexical_tables.specs.Ends.{AreEnds, IsFirstEnd, is_end}
+use Rattle.lexical_tables.specs.Quotes.{quote, seen}
 use Rattle.lexical_tables.specs.Rows.{line_feed}
 use Rattle.lexical_tables.proofs.SeenBytes.{marks, quoting, seen_is, seen_long, turned}
 
@@ -136,29 +136,11 @@ shifted_bit m r k =
     turn : (a b : ℕ) → a * 2 * b ≡ a * b * 2
     turn a b = grind arith
 
--- ---- the lowest mark
+-- ---- the first end
 
--- What the place of the lowest mark tells of the first cell, and that the other marks are those of what stands behind.
-pub record FirstEnd (q : Bool) (s : ℕ) (text : List ℕ) (m r : ℕ) : Type 0 where
-  pub few : r < 64
-  pub room : r + 17 ≤ length text
-  pub line : get_or text r 0 ≡ line_feed → length_outside q line_feed text ≡ r
-  pub last : get_or text r 0 ≡ line_feed → r ≤ length_outside q s text
-  pub cell : get_or text r 0 ≢ line_feed → length_outside q s text ≡ r
-  pub parts : get_or text r 0 ≢ line_feed → get_or text r 0 ≡ s
-  pub before : get_or text r 0 ≢ line_feed → r < length_outside q line_feed text
-  pub behind : get_or text r 0 ≢ line_feed
-      → length_outside q line_feed text ≡ r + 1 + length_outside q line_feed (drop (r + 1) text)
-  pub left : AreEnds q s (drop (r + 1) text) (m / 2 ^ r / 2)
-
-module _ (q : Bool) (s : ℕ) (text : List ℕ) (m r : ℕ) (a : AreEnds q s text m) (apart : q ≡ true → s ≢ quote)
-    (low : r < a.seen) (size : a.seen + 16 ≤ length text) (set : bit_at m r ≡ 1)
-    (below : (k : ℕ) → k < r → bit_at m k ≡ 0) where
-  -- no place before it is an end
-  no_end : (k : ℕ) → k < r → is_end q s text k ≡ false
-  no_end k less = set_false (is_end q s text k) (sym (a.here k (omega arith)) ∙ below k less)
-
-  -- so no separator outside quotes stands there
+module _ (q : Bool) (s : ℕ) (text : List ℕ) (r : ℕ) (apart : q ≡ true → s ≢ quote) (room : r + 17 ≤ length text)
+    (no_end : (k : ℕ) → k < r → is_end q s text k ≡ false) (here : is_end q s text r ≡ true) where
+  -- no separator outside quotes stands before it
   no_part : (k : ℕ) → k < r → get_or (seen q s text) k 0 ≢ s
   no_part k less =
       eqb-false (get_or (seen q s text) k 0) s
@@ -170,17 +152,16 @@ module _ (q : Bool) (s : ℕ) (text : List ℕ) (m r : ℕ) (a : AreEnds q s tex
       eqb-false (get_or (seen q line_feed text) k 0) line_feed
       (neither (get_or (seen q s text) k 0 == s) (get_or (seen q line_feed text) k 0 == line_feed) (no_end k less)).1
 
-  -- its own place is an end: outside quotes, and one of the two
+  -- its own place is outside quotes, and one of the two
   here_both : (within_behind q false r text ≡ false) × (((get_or text r 0 == s) || (get_or text r 0 == line_feed)) ≡ true)
   here_both =
       both (within_behind q false r text) ((get_or text r 0 == s) || (get_or text r 0 == line_feed))
-      (sym (end_by q s text apart r (omega arith))
-      ∙ set_true (is_end q s text r) (sym (a.here r low) ∙ set))
+      (sym (end_by q s text apart r (omega (arith, room))) ∙ here)
 
   -- each search sees the byte there
   here_seen : (sought : ℕ) → (q ≡ true → sought ≢ quote) → get_or (seen q sought text) r 0 ≡ get_or text r 0
   here_seen sought other =
-      ap (λ l. get_or l r 0) (seen_marks q sought text other) ∙ marks_at q false sought r text (omega arith)
+      ap (λ l. get_or l r 0) (seen_marks q sought text other) ∙ marks_at q false sought r text (omega (arith, room))
       ∙ ap (λ w. cond w (suc sought) (get_or text r 0)) here_both.0
 
   -- which byte that is
@@ -201,7 +182,7 @@ module _ (q : Bool) (s : ℕ) (text : List ℕ) (m r : ℕ) (a : AreEnds q s tex
   outside : within_behind q false (r + 1) text ≡ false
   outside =
       let next : r + 1 ≡ suc r = omega arith in
-      ap (λ n. within_behind q false n text) next ∙ within_next q false r text (omega arith)
+      ap (λ n. within_behind q false n text) next ∙ within_next q false r text (omega (arith, room))
       ∙ ap (λ w. turned q w (get_or text r 0)) here_both.0 ∙ no_turn q (get_or text r 0) here_apart
     where
       no_turn : (q : Bool) (byte : ℕ) → (q ≡ true → byte ≢ quote) → turned q false byte ≡ false
@@ -236,40 +217,121 @@ module _ (q : Bool) (s : ℕ) (text : List ℕ) (m r : ℕ) (a : AreEnds q s tex
   part_here other = elim here_byte [ inl is ↦ is | inr is ↦ absurd (other is) ]
 
   -- what the first end tells
-  pub end_is : FirstEnd q s text m r
+  pub end_is : IsFirstEnd q s text r
   end_is =
       let long = seen_long q s text in
-      let line_long = seen_long q line_feed text in
-      let left_long = length-drop (r + 1) text in
-      let least = a.few in
-      record {
-        few = omega arith;
-        room = omega arith;
-        line = λ is. sym (field_is line_feed (seen q line_feed text) r (omega arith) no_line
+      let line_long = seen_long q line_feed text in record {
+        room = room;
+        line = λ is. sym (field_is line_feed (seen q line_feed text) r (omega (arith, room, line_long)) no_line
             (λ some. here_seen line_feed (line_apart q) ∙ is));
-        last = λ is. omega (arith, goes_on s r (seen q s text) (omega arith) no_part);
-        cell = λ other. sym (field_is s (seen q s text) r (omega arith) no_part
+        last = λ is. omega (arith, goes_on s r (seen q s text) (omega (arith, room, long)) no_part);
+        cell = λ other. sym (field_is s (seen q s text) r (omega (arith, room, long)) no_part
             (λ some. here_seen s apart ∙ part_here other));
         parts = part_here;
-        before = λ other. omega (arith, goes_on line_feed (r + 1) (seen q line_feed text) (omega arith) (no_line_to other));
-        behind = λ other. goes_on line_feed (r + 1) (seen q line_feed text) (omega arith) (no_line_to other)
+        before = λ other.
+            omega (arith, goes_on line_feed (r + 1) (seen q line_feed text) (omega (arith, room, line_long)) (no_line_to other));
+        behind = λ other.
+            goes_on line_feed (r + 1) (seen q line_feed text) (omega (arith, room, line_long)) (no_line_to other)
             ∙ ap (λ l. r + 1 + field_length line_feed l) (behind_seen line_feed (line_apart q));
-        left = record {
-          seen = a.seen - (r + 1);
-          few = omega arith;
-          room = λ some. omega (arith, some);
-          here = λ k less. shifted_bit m r k ∙ a.here (r + 1 + k) (omega (arith, less))
-              ∙ ap₂ (λ x y. cond {A = ℕ} ((x == s) || (y == line_feed)) 1 0) (moved s apart k)
-              (moved line_feed (line_apart q) k);
-          beyond = λ k more. shifted_bit m r k ∙ a.beyond (r + 1 + k) (omega (arith, more));
-        };
       }
 
--- the lowest mark is the first end
-pub first_end : (q : Bool) (s : ℕ) (text : List ℕ) (m r : ℕ) → AreEnds q s text m → (q ≡ true → s ≢ quote)
-    → bit_at m r ≡ 1 → ((k : ℕ) → k < r → bit_at m k ≡ 0) → FirstEnd q s text m r
-first_end q s text m r a apart set below = by_order (cases_lt r a.seen)
+  -- a place behind it is an end of the text, or none, as of what is behind
+  pub end_behind : (k : ℕ) → is_end q s text (r + 1 + k) ≡ is_end q s (drop (r + 1) text) k
+  end_behind k = ap₂ (λ x y. (x == s) || (y == line_feed)) (moved s apart k) (moved line_feed (line_apart q) k)
+
+-- ---- the lowest mark of a look
+
+-- Of some bytes of a text from a place on, so many, those are marked by a bit where a cell ends, and no other bit is set.
+pub record AreEndsFrom (q : Bool) (s : ℕ) (text : List ℕ) (place m : ℕ) : Type 0 where
+  pub seen : ℕ
+  pub few : seen ≤ 64
+  pub room : 0 < seen → place + seen + 16 ≤ length text
+  pub here : (k : ℕ) → k < seen → bit_at m k ≡ cond (is_end q s text (place + k)) 1 0
+  pub beyond : (k : ℕ) → seen ≤ k → bit_at m k ≡ 0
+
+-- What the lowest mark tells, if no cell ends before the place: where the first one ends, and the ends behind that.
+pub record LowestEnd (q : Bool) (s : ℕ) (text : List ℕ) (m r end : ℕ) : Type 0 where
+  pub few : r < 64
+  pub first : IsFirstEnd q s text end
+  pub ends : AreEnds q s (drop (end + 1) text) (m / 2 ^ r / 2)
+
+pub lowest_end : (q : Bool) (s : ℕ) (text : List ℕ) (place m r : ℕ) → (q ≡ true → s ≢ quote)
+    → AreEndsFrom q s text place m → ((k : ℕ) → k < place → is_end q s text k ≡ false)
+    → bit_at m r ≡ 1 → ((k : ℕ) → k < r → bit_at m k ≡ 0) → LowestEnd q s text m r (place + r)
+lowest_end q s text place m r apart a none set below = by_order (cases_lt r a.seen)
   where
-    by_order : (r < a.seen) ⊎ (a.seen ≤ r) → FirstEnd q s text m r
-    by_order (inr high) = let none : 0 ≡ 1 = sym (a.beyond r high) ∙ set in absurd (omega (arith, none))
-    by_order (inl low) = end_is q s text m r a apart low (a.room (omega arith)) set below
+    by_order : (r < a.seen) ⊎ (a.seen ≤ r) → LowestEnd q s text m r (place + r)
+    by_order (inr high) = let wrong : 0 ≡ 1 = sym (a.beyond r high) ∙ set in absurd (omega (arith, wrong))
+    by_order (inl low) =
+        let least = a.few in
+        let all = a.room (omega (arith, low)) in
+        let room : place + r + 17 ≤ length text = omega (arith, low, all) in
+        let here : is_end q s text (place + r) ≡ true =
+        set_true (is_end q s text (place + r)) (sym (a.here r low) ∙ set) in record {
+          few = omega (arith, low, least);
+          first = end_is q s text (place + r) apart room no_end here;
+          ends = record {
+            seen = a.seen - (r + 1);
+            few = omega (arith, least);
+            room = λ some. omega (arith, some, all, length-drop (place + r + 1) text);
+            here = λ k less.
+                let at : place + (r + 1 + k) ≡ place + r + 1 + k = omega arith in
+                shifted_bit m r k ∙ a.here (r + 1 + k) (omega (arith, less))
+                ∙ ap (λ i. cond {A = ℕ} (is_end q s text i) 1 0) at
+                ∙ ap (λ t. cond {A = ℕ} t 1 0) (end_behind q s text (place + r) apart room no_end here k);
+            beyond = λ k more. shifted_bit m r k ∙ a.beyond (r + 1 + k) (omega (arith, more));
+          };
+        }
+      where
+        no_end : (k : ℕ) → k < place + r → is_end q s text k ≡ false
+        no_end k less = elim (cases_lt k place) [
+          | inl before ↦ none k before
+          | inr behind ↦
+              let at : place + (k - place) ≡ k = omega (arith, behind) in
+              let low_there : k - place < a.seen = omega (arith, less, behind, low) in
+              ap (is_end q s text) (sym at)
+              ∙ set_false (is_end q s text (place + (k - place)))
+              (sym (a.here (k - place) low_there) ∙ below (k - place) (omega (arith, less, behind)))
+        ]
+
+-- of the marks in front of a text
+pub first_end : (q : Bool) (s : ℕ) (text : List ℕ) (m r : ℕ) → AreEnds q s text m → (q ≡ true → s ≢ quote)
+    → bit_at m r ≡ 1 → ((k : ℕ) → k < r → bit_at m k ≡ 0) → LowestEnd q s text m r r
+first_end q s text m r a apart set below =
+    let at : 0 + r ≡ r = omega arith in
+    subst (LowestEnd q s text m r) at (lowest_end q s text 0 m r apart (record {
+      seen = a.seen;
+      few = a.few;
+      room = λ some. omega (arith, a.room some);
+      here = λ k low.
+          let same : k ≡ 0 + k = omega arith in
+          a.here k low ∙ ap (λ i. cond {A = ℕ} (is_end q s text i) 1 0) same;
+      beyond = a.beyond;
+    }) (λ k low. absurd (omega (arith, low))) set below)
+
+-- of a look at 64 bytes from a place on, behind which sixteen more stand
+pub far_end : (q : Bool) (s : ℕ) (text : List ℕ) (place m r : ℕ) → (q ≡ true → s ≢ quote) → place + 80 ≤ length text
+    → m < 2 ^ 64 → ((k : ℕ) → k < 64 → bit_at m k ≡ cond (is_end q s text (place + k)) 1 0)
+    → ((k : ℕ) → k < place → is_end q s text k ≡ false) → bit_at m r ≡ 1 → ((k : ℕ) → k < r → bit_at m k ≡ 0)
+    → LowestEnd q s text m r (place + r)
+far_end q s text place m r apart long fits here none set below =
+    lowest_end q s text place m r apart (record {
+      seen = 64;
+      few = omega arith;
+      room = λ some. omega (arith, long);
+      here = here;
+      beyond = λ k high. bit_at_above m 64 k fits high;
+    }) none set below
+
+-- where a look marks none, no cell ends up to the next one
+pub none_to : (q : Bool) (s : ℕ) (text : List ℕ) (place m : ℕ) → m ≡ 0
+    → ((k : ℕ) → k < 64 → bit_at m k ≡ cond (is_end q s text (place + k)) 1 0)
+    → ((k : ℕ) → k < place → is_end q s text k ≡ false) → (k : ℕ) → k < place + 64 → is_end q s text k ≡ false
+none_to q s text place m empty here none k less = elim (cases_lt k place) [
+  | inl before ↦ none k before
+  | inr behind ↦
+      let at : place + (k - place) ≡ k = omega (arith, behind) in
+      ap (is_end q s text) (sym at)
+      ∙ set_false (is_end q s text (place + (k - place)))
+      (sym (here (k - place) (omega (arith, less, behind))) ∙ ap (λ n. bit_at n (k - place)) empty ∙ bit_at-zero (k - place))
+]

@@ -1,20 +1,16 @@
 -- What one look tells of where cells end: the marks of two bytes, and which of them stand outside quotes.
-use Rattle.std.proofs.Common.{◌≡◌, ◌≢◌, ◌∙◌, ℕ, zero, suc, ◌+◌, ◌-◌, ◌%◌, ◌^◌, ◌==◌, ◌<◌, ◌≤◌, not, List, length, take, map, replicate, get_or, Bool, true, false, cond, min, eqb, refl, ap, ap₂, sym, arith, w64}
-use Rattle.std.specs.Prelude.{◌||◌}
-use Rattle.std.specs.Int.{bit_at, bit_not}
-use Rattle.std.specs.Int.Bits.{bit_and, bit_or, bit_xor}
+use Rattle.std.proofs.Common.{◌≡◌, ◌≢◌, ◌∙◌, ℕ, suc, ◌+◌, ◌%◌, ◌^◌, ◌==◌, ◌<◌, ◌≤◌, not, List, length, take, map, replicate, get_or, Bool, true, false, cond, min, eqb, refl, ap, ap₂, sym, arith}
+use Rattle.std.specs.Prelude.{◌&&◌, ◌||◌}
+use Rattle.std.specs.Int.{bit_at}
+use Rattle.std.specs.Int.Bits.{bit_and, bit_or}
 use Rattle.std.specs.Simd.Lanes.{zip2, mask_l, top}
 use Rattle.std.proofs.lemmas.Bool.{ne_eqb}
 use Rattle.std.proofs.lemmas.List.{get_or-map, get_or-replicate, length-map, length-replicate}
-use Rattle.std.proofs.lemmas.Nat.{xor_lt}
-use Rattle.std.proofs.lemmas.Nat.Bits.{bit_at-lt, bit_at-zero, bit_at_and, bit_at_not, bit_at_xor}
+use Rattle.std.proofs.lemmas.Nat.Bits.{bit_at-zero, bit_at_and}
 use Rattle.std.proofs.lemmas.Simd.{bit_mask_l, get_or-zip2, length-zip2, mask_l-mod}
-use Rattle.std.proofs.Math.Nat.{mod-lt}
 use Rattle.lexical_tables.specs.Ends.{is_end}
-use Rattle.lexical_tables.specs.Looks.{bits_below}
 use Rattle.lexical_tables.specs.Quotes.{has_odd_quotes, hidden, quote}
 use Rattle.lexical_tables.specs.Rows.{line_feed}
-use Rattle.lexical_tables.proofs.Looks.{AreSeen, odd_behind_some}
 use Rattle.lexical_tables.proofs.Passed.{hidden_at}
 
 -- ---- two bytes at once
@@ -56,40 +52,6 @@ module _ (n : ℕ) (v : List ℕ) (long : length v ≡ n) where
       tops false true = refl
       tops false false = refl
 
--- ---- marks outside quotes, by those of the quotes
-
--- no bit of nothing is set
-none_below : (k : ℕ) → bits_below 0 k ≡ 0
-none_below zero = refl
-none_below (suc k) = ap₂ (λ a b. a + b) (none_below k) (bit_at-zero k)
-
--- without a quote all of them
-pub all_outside : (quotes k b : ℕ) → quotes ≡ 0 → b ≡ cond (bits_below quotes k % 2 == 1) 0 b
-all_outside quotes k b none =
-    sym (ap (λ i. cond (i % 2 == 1) 0 b) (ap (λ m. bits_below m k) none ∙ none_below k))
-
--- else those with an even number of quotes before them
-pub bit_outside : (marks quotes odd k : ℕ) → quotes < 2 ^ 64 → odd < 2 ^ 64 → k < 64
-    → bit_at odd k ≡ bits_below quotes (k + 1) % 2
-    → bit_at (bit_and marks (bit_not w64 (bit_xor odd quotes))) k ≡ cond (bits_below quotes k % 2 == 1) 0 (bit_at marks k)
-bit_outside marks quotes odd k fits odd_fits low is =
-    let next : k + 1 ≡ suc k = omega arith in
-    bit_at_and marks (bit_not w64 (bit_xor odd quotes)) k
-    ∙ ap (λ b. min (bit_at marks k) b)
-    (bit_at_not w64 (bit_xor odd quotes) k (xor_lt 64 odd quotes odd_fits fits) low
-    ∙ ap (λ b. 1 - b) (bit_at_xor odd quotes k
-    ∙ ap (λ b. (b + bit_at quotes k) % 2) (is ∙ ap (λ i. bits_below quotes i % 2) next)
-    ∙ twice (bits_below quotes k) (bit_at quotes k)))
-    ∙ by_rest (bits_below quotes k % 2) (bit_at marks k) (mod-lt (bits_below quotes k) {m = 2} (omega arith)) (bit_at-lt marks k)
-  where
-    twice : (a b : ℕ) → ((a + b) % 2 + b) % 2 ≡ a % 2
-    twice a b = omega arith
-
-    by_rest : (r b : ℕ) → r < 2 → b < 2 → min b (1 - r) ≡ cond (r == 1) 0 b
-    by_rest zero b small bit = omega (arith, bit)
-    by_rest (suc zero) b small bit = omega arith
-    by_rest (suc (suc r)) b small bit = absurd (omega (arith, small))
-
 -- ---- what an end is where quotes have a meaning
 
 -- a byte within quotes is none that is sought
@@ -110,27 +72,45 @@ quoted_end s text apart k low =
     by_odd true x = ap (λ t. t || (suc line_feed == line_feed)) (never s)
     by_odd false x = refl
 
--- the marks of two bytes that stand outside quotes are those of the ends
-pub quoted_bit : (s : ℕ) (text : List ℕ) → s ≢ quote → (n quotes marks found k : ℕ) → n ≤ length text → k < n
-    → ((i : ℕ) → i < n → bit_at quotes i ≡ cond (get_or text i 0 == quote) 1 0)
-    → bit_at marks k ≡ cond ((get_or text k 0 == s) || (get_or text k 0 == line_feed)) 1 0
-    → bit_at found k ≡ cond (bits_below quotes k % 2 == 1) 0 (bit_at marks k)
-    → bit_at found k ≡ cond (is_end true s text k) 1 0
-quoted_bit s text apart n quotes marks found k long low seen is outside =
-    let t = (get_or text k 0 == s) || (get_or text k 0 == line_feed) in
-    let from : 0 + k ≡ k = omega arith in
-    let all : AreSeen quote text 0 n quotes = λ i less. seen i less ∙ at i in
-    let odd : has_odd_quotes (take k text) ≡ (bits_below quotes k % 2 == 1) =
-    ap (λ i. has_odd_quotes (take i text)) (sym from)
-    ∙ odd_behind_some text 0 n quotes false (omega arith) refl all k (omega arith) in
-    outside ∙ ap₂ (λ w b. cond w 0 b) (sym odd) is ∙ by_odd (has_odd_quotes (take k text)) t
-    ∙ ap (λ t. cond t 1 0) (sym (quoted_end s text apart k (omega arith)))
-  where
-    at : (i : ℕ) → cond {A = ℕ} (get_or text i 0 == quote) 1 0 ≡ cond (get_or text (0 + i) 0 == quote) 1 0
-    at i =
-        let same : i ≡ 0 + i = omega arith in
-        ap (λ j. cond {A = ℕ} (get_or text j 0 == quote) 1 0) same
+-- in front of a text no quote is odd
+pub none_within : (q : Bool) (text : List ℕ) → false ≡ (q && has_odd_quotes (take 0 text))
+none_within true text = refl
+none_within false text = refl
 
-    by_odd : (w t : Bool) → cond {A = ℕ} w 0 (cond t 1 0) ≡ cond {A = ℕ} (cond w false t) 1 0
-    by_odd true t = refl
-    by_odd false t = refl
+-- where quotes have a meaning, the marks of two bytes that stand outside quotes are those of the ends
+module _ (q : Bool) (s : ℕ) (text : List ℕ) (quoted : q ≡ true) (apart : s ≢ quote) (place k ends : ℕ)
+    (low : place + k < length text)
+    (is : bit_at ends k ≡ cond ((get_or text (place + k) 0 == s) || (get_or text (place + k) 0 == line_feed)) 1 0) where
+  found_as : (found : ℕ) → bit_at found k ≡ cond (cond (has_odd_quotes (take (place + k) text)) false
+      ((get_or text (place + k) 0 == s) || (get_or text (place + k) 0 == line_feed))) 1 0
+      → bit_at found k ≡ cond (is_end q s text (place + k)) 1 0
+  found_as found same =
+      same ∙ ap (λ t. cond {A = ℕ} t 1 0) (sym (quoted_end s text apart (place + k) low))
+      ∙ ap (λ t. cond {A = ℕ} (is_end t s text (place + k)) 1 0) (sym quoted)
+
+  -- by the places outside quotes
+  pub outside_end : (outside : ℕ) → bit_at outside k ≡ cond (has_odd_quotes (take (place + k) text)) 0 1
+      → bit_at (bit_and ends outside) k ≡ cond (is_end q s text (place + k)) 1 0
+  outside_end outside other =
+      found_as (bit_and ends outside) (bit_at_and ends outside k ∙ ap₂ min is other
+      ∙ by_both (has_odd_quotes (take (place + k) text))
+      ((get_or text (place + k) 0 == s) || (get_or text (place + k) 0 == line_feed)))
+    where
+      by_both : (h t : Bool) → min (cond t 1 0) (cond h 0 1) ≡ cond {A = ℕ} (cond h false t) 1 0
+      by_both true true = refl
+      by_both true false = refl
+      by_both false true = refl
+      by_both false false = refl
+
+  -- and where no quote is among the bytes
+  pub alike_end : (w : Bool) (found : ℕ) → has_odd_quotes (take (place + k) text) ≡ w → (w ≡ true → found ≡ 0)
+      → (w ≡ false → found ≡ ends) → bit_at found k ≡ cond (is_end q s text (place + k)) 1 0
+  alike_end w found alike inner outer =
+      found_as found (by_within w inner outer
+      ∙ ap (λ h. cond {A = ℕ} (cond h false ((get_or text (place + k) 0 == s) || (get_or text (place + k) 0 == line_feed))) 1 0)
+      (sym alike))
+    where
+      by_within : (w : Bool) → (w ≡ true → found ≡ 0) → (w ≡ false → found ≡ ends) → bit_at found k
+          ≡ cond (cond w false ((get_or text (place + k) 0 == s) || (get_or text (place + k) 0 == line_feed))) 1 0
+      by_within true inner outer = ap (λ m. bit_at m k) (inner refl) ∙ bit_at-zero k
+      by_within false inner outer = ap (λ m. bit_at m k) (outer refl) ∙ is

@@ -1,5 +1,5 @@
 -- A row of which some cells were read.
-use Rattle.std.specs.Prelude.{◌≡◌, ◌≢◌, ◌==◌, ◌&&◌, ◌+◌, ◌-◌, ◌/◌, ◌^◌, ◌<◌, ◌≤◌, ℕ, false, true, if◌then◌else◌, List, [], ◌∷◌, ◌++◌, length, slice_index, take, drop, Option, Some, None, Result, Ok, Err}
+use Rattle.std.specs.Prelude.{◌≡◌, ◌≢◌, ◌==◌, ◌&&◌, ◌+◌, ◌-◌, ◌<◌, ◌≤◌, ℕ, false, true, if◌then◌else◌, List, [], ◌∷◌, ◌++◌, length, slice_index, take, drop, Option, Some, None, Result, Ok, Err}
 use Rattle.lexical_fields.specs.Columns as columns
 use Rattle.lexical_fields.specs.Fields.{FieldView}
 use Rattle.lexical_tables.specs.ByColumn.{AreUsable, cell_answers, cells_left, cells_of, column_count, kinds_of, put_row, row_answers, row_fault, row_values, separator_of}
@@ -95,11 +95,9 @@ GoesToEnd dialect index text from before after first column =
     → IsRowPut kinds dialect index row old after column []
 
 -- A part is the next cell of a text's first row, of which this is left: its size, what ends it, and whether it is the last.
-pub record IsPart (dialect : Dialect) (separator : ℕ) (text left : List ℕ) (marks : ℕ)
-    (part : Part) : Type 0 where
+pub record IsPart (dialect : Dialect) (separator : ℕ) (text left : List ℕ) (part : Part) : Type 0 where
   pub room : part.size + 17 ≤ length left
   pub within : part.end + 17 ≤ length left
-  pub few : part.end < 64
   pub cells : (start column : ℕ) → let row = first_row dialect start text in
       let passed = length text - length left in
       cells_behind dialect row column passed
@@ -114,5 +112,9 @@ pub record IsPart (dialect : Dialect) (separator : ℕ) (text left : List ℕ) (
   } ≡ first_row dialect start text
   pub line : part.is_last ≡ true
       → drop (part.end + 1) left ≡ behind_piece dialect.layout dialect.has_quotes text
-  pub ends : AreEnds dialect.has_quotes separator (drop (part.end + 1) left)
-      (marks / 2 ^ part.end / 2)
+
+-- What stands behind a cell that ends at a place, and the ends that are marked there.
+pub record IsBehind (dialect : Dialect) (separator : ℕ) (left : List ℕ) (end : ℕ)
+    (behind : List ℕ) (marks : ℕ) : Type 0 where
+  pub text : behind ≡ drop (end + 1) left
+  pub ends : AreEnds dialect.has_quotes separator behind marks

@@ -1,11 +1,10 @@
 // Where a row's cells end: at separators and line feeds outside quotes, which one look at 64 bytes marks.
-ghost use Rattle.std.specs.Prelude.{◌≡◌, ◌≢◌, ◌==◌, ◌||◌, ◌+◌, ◌/◌, ◌%◌, ◌^◌, ◌<◌, ◌≤◌, ℕ, true, if◌then◌else◌, length, drop, slice_index};
+ghost use Rattle.std.specs.Prelude.{◌≡◌, ◌≢◌, ◌==◌, ◌&&◌, ◌||◌, ◌+◌, ◌/◌, ◌^◌, ◌<◌, ◌≤◌, ℕ, true, if◌then◌else◌, length, drop, slice_index, take};
 ghost use Rattle.std.specs.Int.{bit_at};
-ghost use Rattle.lexical_tables.specs.Ends.{AreEnds};
-ghost use Rattle.lexical_tables.specs.Looks.{bits_below};
-ghost use Rattle.lexical_tables.specs.Quotes.{length_outside, quote};
-ghost use Rattle.lexical_tables.specs.Rows.{line_feed};
+ghost use Rattle.lexical_tables.specs.Ends.{AreEnds, IsFirstEnd, is_end};
+ghost use Rattle.lexical_tables.specs.Quotes.{has_odd_quotes, quote};
 
+use crate::quotes::looks::{all_or_none, outside_marks};
 use crate::quotes::parities::odd_to_64;
 use lexical_fields::lowest_mark;
 use std::simd::prelude::*;
@@ -37,17 +36,51 @@ fn marks_of_two(bytes: &[u8], first: u8, second: u8) -> u64
     (lanes.simd_eq(u8x64::splat(first)) | lanes.simd_eq(u8x64::splat(second))).to_bitmask()
 }
 
-// The marks that stand outside quotes, by the marks of the quotes. Most looks see none of these.
+// What a look at 64 bytes tells: the ends of cells, a bit for each, and whether what is behind stands within quotes.
+#[derive(Copy, Clone)]
+pub(crate) struct Window {
+    pub ends: u64,
+    pub is_within: bool,
+}
+
+// One look at the 64 bytes from a place on.
 #[inline(always)]
-fn marks_outside(marks: u64, quotes: u64) -> u64
-    ensures { (k : ℕ) → k < 64 → bit_at result k
-        ≡ (if bits_below quotes k % 2 == 1 then 0 else bit_at marks k) }
+pub(crate) fn look_at_64(
+    text: &[u8],
+    place: usize,
+    separator: u8,
+    has_quotes: bool,
+    is_within: bool,
+) -> Window
+    requires quoted { has_quotes ≡ true → separator ≢ quote }
+    requires room { place + 64 ≤ length text.now }
+    requires within { is_within ≡ (has_quotes && has_odd_quotes (take place text.now)) }
+    ensures here { (k : ℕ) → k < 64 → bit_at result.ends k
+        ≡ (if is_end has_quotes separator text.now (place + k) then 1 else 0) }
+    ensures within { result.is_within
+        ≡ (has_quotes && has_odd_quotes (take (place + 64) text.now)) }
 {
-    if quotes == 0 {
-        return marks;
+    let near = &text[place..place + 64];
+    let ends = marks_of_two(near, separator, b'\n');
+    if !has_quotes {
+        return Window {
+            ends,
+            is_within: false,
+        };
     }
-    let odd_before = odd_to_64(quotes) ^ quotes;
-    marks & !odd_before
+    let quotes = marks_of_one(near, b'"');
+    if quotes == 0 {
+        return Window {
+            ends: all_or_none(ends, is_within),
+            is_within,
+        };
+    }
+    let odd = odd_to_64(quotes);
+    let is_odd = (odd >> 63) & 1 == 1;
+    Window {
+        ends: ends & outside_marks(quotes, odd, is_within),
+        is_within: is_within != is_odd,
+    }
 }
 
 // The ends of cells among the first bytes of a text, a bit for each, and none where the text is short.
@@ -59,12 +92,7 @@ fn ends_in_front(text: &[u8], separator: u8, has_quotes: bool) -> u64
     if text.len() < LEAST_MARKED {
         return 0;
     }
-    let near = &text[..64];
-    let ends = marks_of_two(near, separator, b'\n');
-    if !has_quotes {
-        return ends;
-    }
-    marks_outside(ends, marks_of_one(near, b'"'))
+    look_at_64(text, 0, separator, has_quotes, false).ends
 }
 
 // The marks that are left, or new ones where none is. The text begins at a cell's start, so outside quotes.
@@ -87,21 +115,8 @@ pub(crate) fn first_end(text: &[u8], marks: u64, separator: u8, has_quotes: bool
     requires some { marks ≢ 0 }
     requires marks { AreEnds has_quotes separator text.now marks }
     requires quoted { has_quotes ≡ true → separator ≢ quote }
-    ensures room { result + 17 ≤ length text.now }
     ensures few { result < 64 }
-    ensures line { slice_index text.now result ≡ line_feed
-        → length_outside has_quotes line_feed text.now ≡ result }
-    ensures last { slice_index text.now result ≡ line_feed
-        → result ≤ length_outside has_quotes separator text.now }
-    ensures cell { slice_index text.now result ≢ line_feed
-        → length_outside has_quotes separator text.now ≡ result }
-    ensures parts { slice_index text.now result ≢ line_feed
-        → slice_index text.now result ≡ separator }
-    ensures before { slice_index text.now result ≢ line_feed
-        → result < length_outside has_quotes line_feed text.now }
-    ensures behind { slice_index text.now result ≢ line_feed
-        → length_outside has_quotes line_feed text.now
-        ≡ result + 1 + length_outside has_quotes line_feed (drop (result + 1) text.now) }
+    ensures end { IsFirstEnd has_quotes separator text.now result }
     ensures left { AreEnds has_quotes separator (drop (result + 1) text.now)
         (marks / 2 ^ result / 2) }
 {

@@ -1,12 +1,13 @@
 //! The next cell of a row, as marks find it.
 
-ghost use Rattle.std.specs.Prelude.{◌≡◌, ◌≢◌, ◌==◌, ◌&&◌, ◌+◌, ◌-◌, ◌/◌, ◌^◌, ◌<◌, ◌≤◌, ℕ, [], ◌∷◌, false, if◌then◌else◌, drop, length, slice_index, take, true};
-ghost use Rattle.lexical_tables.specs.Ends.{AreEnds};
-ghost use Rattle.lexical_tables.specs.RowSoFar.{IsMarked, IsOnRow, IsPart};
-ghost use Rattle.lexical_tables.specs.Rows.{behind_piece, carriage_return, first_row, line_feed};
+ghost use Rattle.std.specs.Prelude.{◌≡◌, ◌≢◌, ◌==◌, ◌&&◌, ◌+◌, ◌-◌, ◌/◌, ◌^◌, ◌<◌, ◌≤◌, IfSome, false, drop, length, slice_index, take, true};
+ghost use Rattle.lexical_tables.specs.Ends.{AreEnds, IsFirstEnd};
+ghost use Rattle.lexical_tables.specs.RowSoFar.{IsBehind, IsMarked, IsOnRow, IsPart};
+ghost use Rattle.lexical_tables.specs.Rows.{carriage_return, line_feed};
 
 use crate::dialect::Dialect;
 use crate::ends::{behind_end, first_end};
+use crate::far_ends::far_end;
 
 // What is left of a text, and the marks of where its first cells end.
 #[derive(Copy, Clone)]
@@ -21,6 +22,13 @@ pub(crate) struct Part {
     pub size: usize,
     pub end: usize,
     pub is_last: bool,
+}
+
+// A cell that was found, and what is left of the text behind it.
+#[derive(Copy, Clone)]
+pub(crate) struct Found<'a> {
+    pub part: Part,
+    pub behind: Left<'a>,
 }
 
 // What is left of a text behind a cell that ends at a place.
@@ -69,22 +77,15 @@ pub(crate) fn lacks_return(left: &[u8], size: usize, has_returns: bool) -> bool
     has_returns && left[size] == b'\n'
 }
 
-// The next cell of the first row of a text, of which this is left.
+// The next cell of the first row of a text, of which this is left, by where the cell ends.
 #[inline(always)]
-pub(crate) fn next_part(
-    text: &[u8],
-    left: &[u8],
-    marks: u64,
-    separator: u8,
-    dialect: &Dialect<'_>,
-) -> Part
-    requires some { marks ≢ 0 }
-    requires marks { AreEnds dialect.now.has_quotes separator left.now marks }
+fn part_to(text: &[u8], left: &[u8], end: usize, separator: u8, dialect: &Dialect<'_>) -> Part
+    requires end { IsFirstEnd dialect.now.has_quotes separator left.now end }
     requires here { IsOnRow dialect.now separator text.now left.now }
     requires marked { IsMarked dialect.now separator }
-    ensures { IsPart dialect.now separator text.now left.now marks result }
+    ensures part { IsPart dialect.now separator text.now left.now result }
+    ensures end { result.end ≡ end }
 {
-    let end = first_end(left, marks, separator, dialect.has_quotes);
     if left[end] != b'\n' {
         return Part {
             size: end,
@@ -97,5 +98,54 @@ pub(crate) fn next_part(
         size,
         end,
         is_last: true,
+    }
+}
+
+// The next cell of the first row of a text, of which this is left, by its marks.
+#[inline(always)]
+pub(crate) fn next_part(
+    text: &[u8],
+    left: &[u8],
+    marks: u64,
+    separator: u8,
+    dialect: &Dialect<'_>,
+) -> Part
+    requires some { marks ≢ 0 }
+    requires marks { AreEnds dialect.now.has_quotes separator left.now marks }
+    requires here { IsOnRow dialect.now separator text.now left.now }
+    requires marked { IsMarked dialect.now separator }
+    ensures part { IsPart dialect.now separator text.now left.now result }
+    ensures few { result.end < 64 }
+    ensures ends { AreEnds dialect.now.has_quotes separator (drop (result.end + 1) left.now)
+        (marks / 2 ^ result.end / 2) }
+{
+    let end = first_end(left, marks, separator, dialect.has_quotes);
+    part_to(text, left, end, separator, dialect)
+}
+
+// The next cell of the first row of a text, of which this is left, if it ends in front of the text's last bytes.
+#[inline(always)]
+pub(crate) fn far_part<'a>(
+    text: &[u8],
+    left: &'a [u8],
+    separator: u8,
+    dialect: &Dialect<'_>,
+) -> Option<Found<'a>>
+    requires here { IsOnRow dialect.now separator text.now left.now }
+    requires marked { IsMarked dialect.now separator }
+    ensures part { IfSome result
+        (λ found. IsPart dialect.now separator text.now left.now found.part) }
+    ensures behind { IfSome result (λ found. IsBehind dialect.now separator left.now
+        found.part.end found.behind.text.now found.behind.marks) }
+{
+    match far_end(left, separator, dialect.has_quotes) {
+        None => None,
+        Some(far) => Some(Found {
+            part: part_to(text, left, far.end, separator, dialect),
+            behind: Left {
+                text: &left[far.end + 1..],
+                marks: far.marks,
+            },
+        }),
     }
 }

@@ -1,6 +1,6 @@
 //! Numbers of cells that aren't had at once, and faults of cells.
 
-ghost use Rattle.std.specs.Prelude.{◌≡◌, ◌+◌, ◌<◌, ◌^◌, IsNone, length, map};
+ghost use Rattle.std.specs.Prelude.{◌≡◌, ◌+◌, ◌<◌, ◌^◌, ℕ, IsNone, IsTrue, None, false, length, map};
 ghost use Rattle.lexical_util.specs.Format.{standard};
 ghost use Rattle.lexical_util.specs.Validity.{fault};
 ghost use Rattle.lexical_fields.specs.ReadFields.{field_answer};
@@ -10,7 +10,7 @@ use lexical_fields::error_in_text;
 use lexical_parse_integer::laws::grammar::fault_places;
 use lexical_parse_integer::parse::ParseInteger;
 use lexical_parse_integer::quick::{complete_standard, complete_valid, value_for_format};
-use lexical_parse_integer::{Error, NumberFormat, format};
+use lexical_parse_integer::{Error, NumberFormat, NumberFormatBuilder, format};
 
 // Puts the number of a cell that isn't had at once into a row's place, or tells the cell's fault: by the reader for its
 // format's kind, or by the parser.
@@ -38,6 +38,35 @@ pub(crate) fn put_parsed<T: ParseInteger>(
             None
         }
         Err(error) => Some(error_in_text(start, error)),
+    }
+}
+
+/// Puts the number of a cell into a row's place of a slice, under the standard format with another radix than 10, where the cell
+/// is digits alone or behind a minus and the type has their number, and tells whether it did. Else it puts nothing, and says
+/// nothing of the cell. The format is made here: what it asks for isn't asked again.
+///
+/// It is for a [`TableColumn`](crate::TableColumn) of one's own. The slice has to have that place.
+#[inline(never)]
+pub fn put_in_radix<T: ParseInteger>(values: &mut [T], row: usize, cell: &[u8], radix: u8) -> bool
+    requires room { row < length values.old }
+    ensures fault { IsTrue result → (start : ℕ) → error_in (field_answer
+        (record standard { mantissa_radix = radix }) T.TYPE
+        (record { start = start; text = cell.now })) ≡ None }
+    ensures numbers { IsTrue result → (start : ℕ) → map T.number values.new
+        ≡ with_number row (field_answer (record standard { mantissa_radix = radix }) T.TYPE
+        (record { start = start; text = cell.now })) (map T.number values.old) }
+    ensures kept { result ≡ false → values.new ≡ values.old }
+{
+    if radix == 10 {
+        return false;
+    }
+    let format = NumberFormatBuilder::from_radix(radix);
+    match value_for_format::<T>(cell, &format) {
+        Some(value) => {
+            values[row] = value;
+            true
+        }
+        None => false,
     }
 }
 

@@ -1,22 +1,24 @@
 //! Rows whose cells are found in one pass, and whose numbers are mostly had at once.
 
-ghost use Rattle.std.specs.Prelude.{◌≡◌, ◌≢◌, ◌==◌, ◌+◌, ◌-◌, ◌<◌, ◌≤◌, ◌^◌, ◌&&◌, ℕ, IfOk, IfSome, IsTrue, None, Some, drop, false, length, map, not, slice_index, take, true};
+ghost use Rattle.std.specs.Prelude.{◌≡◌, ◌≢◌, ◌==◌, ◌+◌, ◌-◌, ◌/◌, ◌<◌, ◌≤◌, ◌^◌, ◌&&◌, ℕ, IfOk, IfSome, IsTrue, None, Some, drop, false, length, map, not, slice_index, take, true};
 ghost use Rattle.lexical_tables.specs.ByColumn.{AreUsable, StopsAt, answer_at, column_count, columns_answer, columns_put, end_fault, fault_in, kinds_of, put_read_at, put_row, row_fault, row_values};
 ghost use Rattle.lexical_tables.specs.Codes.{AreCodes};
 ghost use Rattle.lexical_tables.specs.Ends.{AreEnds, AreEndsIf};
 ghost use Rattle.lexical_tables.specs.Quotes.{quote};
-ghost use Rattle.lexical_tables.specs.RowSoFar.{GoesOn, GoesToEnd, IsMarked, IsOnRow, IsPart};
+ghost use Rattle.lexical_tables.specs.RowSoFar.{GoesOn, GoesToEnd, IsBehind, IsMarked, IsOnRow, IsPart};
 ghost use Rattle.lexical_tables.specs.Rows.{FirstCounts, behind_piece, carriage_return, first_row, rows_from};
 
 use crate::answers::{CellFault, Table, TableError};
-use crate::by_column::{put_end_fault, read_rest};
+use crate::by_column::read_rest;
 use crate::cells::column_count;
 use crate::coded_cells::{read_coded_cell, read_left_cell};
 use crate::codes::{CODED, UNKNOWN, put_codes};
 use crate::dialect::{Dialect, Layout};
 use crate::ends::{LEAST_MARKED, next_ends};
-use crate::next_part::{Left, Part, behind_part, lacks_return, next_part};
-use crate::rows::{Row, without_empty_rows};
+use crate::far_cells::read_far_cell;
+use crate::next_part::{Left, Part, behind_part, next_part};
+use crate::row_end::{ReadTo, end_row};
+use crate::rows::without_empty_rows;
 use crate::targets::TableColumn;
 use lexical_parse_integer::Options;
 
@@ -37,15 +39,6 @@ pub(crate) fn marked_separator(text: &[u8], dialect: &Dialect<'_>) -> Option<u8>
         return None;
     }
     Some(separator)
-}
-
-// How far a row was read: what is left of its text, behind so many columns, and the part that is there first. If that is the row's
-// last, it was read too, and is counted.
-#[derive(Copy, Clone)]
-struct ReadTo<'a> {
-    left: Left<'a>,
-    column: usize,
-    part: Part,
 }
 
 // Nothing is known of what is left of a row, behind so many columns.
@@ -98,9 +91,13 @@ fn read_cells_at_once<'a, C: TableColumn, const HAS_QUOTES: bool>(
     ensures codes { AreCodes dialect.now codes.now (map C.target targets.new) }
     ensures usable { AreUsable (index + 1) (map C.target targets.new) }
     ensures part { result.part.is_last ≡ true → IsPart dialect.now separator text.now
-        result.left.text.now result.left.marks result.part }
+        result.left.text.now result.part }
+    ensures few { result.part.is_last ≡ true → result.part.end < 64 }
+    ensures ends { result.part.is_last ≡ true → AreEnds dialect.now.has_quotes separator
+        (drop (result.part.end + 1) result.left.text.now)
+        (result.left.marks / 2 ^ result.part.end / 2) }
     ensures counted { first ≤ result.column }
-    ensures few { first ≤ columns → result.column ≤ columns }
+    ensures columns { first ≤ columns → result.column ≤ columns }
 {
     let mut left = from;
     let mut column = first;
@@ -127,48 +124,6 @@ fn read_cells_at_once<'a, C: TableColumn, const HAS_QUOTES: bool>(
         left = behind_part(left, part.end);
     }
     read_to(left, column)
-}
-
-// Tells what is wrong with the end of a row whose last cell was read: what is left of the text behind the row.
-#[inline(always)]
-fn end_row<'a>(
-    start: usize,
-    text: &[u8],
-    read: ReadTo<'a>,
-    index: usize,
-    columns: usize,
-    separator: u8,
-    dialect: &Dialect<'_>,
-    wrong: &mut Option<TableError>,
-) -> Left<'a>
-    requires fine { wrong.old ≡ None }
-    requires columns { columns ≡ column_count dialect.now.layout }
-    requires few { read.column ≤ columns }
-    requires within { length read.left.text.now ≤ length text.now }
-    requires part { IsPart dialect.now separator text.now read.left.text.now read.left.marks
-        read.part }
-    requires last { read.part.is_last ≡ true }
-    requires fits { start + length text.now < 2 ^ 64 }
-    ensures fault { wrong.new ≡ end_fault columns index (first_row dialect.now start text.now)
-        read.entry.column None }
-    ensures behind { result.text.now
-        ≡ behind_piece dialect.now.layout dialect.now.has_quotes text.now }
-    ensures shorter { length result.text.now < length read.entry.left.text.now }
-    ensures marks { AreEnds dialect.now.has_quotes separator result.text.now result.marks }
-{
-    let left = read.left.text;
-    let behind = behind_part(read.left, read.part.end);
-    let lacks_return = lacks_return(left, read.part.size, dialect.has_returns);
-    if read.column == columns && !lacks_return {
-        return behind;
-    }
-    let row = Row {
-        start,
-        text: &text[..text.len() - left.len() + read.part.size],
-        lacks_return,
-    };
-    put_end_fault(&row, index, columns, read.column, None, wrong);
-    behind
 }
 
 // The numbers of the first row of a text go to its place in the targets, up to the row's fault, which is told, where one pass of
@@ -214,7 +169,15 @@ fn read_marked_row<'a, C: TableColumn, const HAS_QUOTES: bool>(
         );
         if read.part.is_last {
             return end_row(
-                start, text.text, read, index, columns, separator, dialect, wrong,
+                start,
+                text.text,
+                read,
+                behind_part(read.left, read.part.end),
+                index,
+                columns,
+                separator,
+                dialect,
+                wrong,
             );
         }
         let passed = text.text.len() - read.left.text.len();
@@ -227,52 +190,82 @@ fn read_marked_row<'a, C: TableColumn, const HAS_QUOTES: bool>(
             return read.left;
         }
         if read.left.marks == 0 {
-            let text = read_rest(
+            if read.left.text.len() < LEAST_MARKED {
+                let text = read_rest(
+                    start,
+                    text.text,
+                    passed,
+                    read.column,
+                    index,
+                    dialect,
+                    options,
+                    targets,
+                    wrong,
+                );
+                return Left { text, marks: 0 };
+            }
+            let far = read_far_cell(
                 start,
                 text.text,
-                passed,
+                read.left.text,
                 read.column,
                 index,
+                columns,
+                separator,
+                codes,
                 dialect,
                 options,
                 targets,
                 wrong,
             );
-            return Left { text, marks: 0 };
-        }
-        let part = next_part(
-            text.text,
-            read.left.text,
-            read.left.marks,
-            separator,
-            dialect,
-        );
-        if !read_left_cell(
-            targets,
-            codes,
-            read.column,
-            index,
-            start + passed,
-            read.left.text,
-            part.size,
-            dialect,
-            options,
-            wrong,
-        ) {
-            return read.left;
-        }
-        column = read.column + 1;
-        if part.is_last {
-            let read = ReadTo {
-                left: read.left,
-                column,
-                part,
-            };
-            return end_row(
-                start, text.text, read, index, columns, separator, dialect, wrong,
+            column = read.column + 1;
+            left = far.left;
+            if far.is_done {
+                return left;
+            }
+        } else {
+            let part = next_part(
+                text.text,
+                read.left.text,
+                read.left.marks,
+                separator,
+                dialect,
             );
+            if !read_left_cell(
+                targets,
+                codes,
+                read.column,
+                index,
+                start + passed,
+                read.left.text,
+                part.size,
+                dialect,
+                options,
+                wrong,
+            ) {
+                return read.left;
+            }
+            column = read.column + 1;
+            if part.is_last {
+                let read = ReadTo {
+                    left: read.left,
+                    column,
+                    part,
+                };
+                return end_row(
+                    start,
+                    text.text,
+                    read,
+                    behind_part(read.left, part.end),
+                    index,
+                    columns,
+                    separator,
+                    dialect,
+                    wrong,
+                );
+            }
+            left = behind_part(read.left, part.end);
         }
-        left = behind_part(read.left, part.end);
     }
 }
 

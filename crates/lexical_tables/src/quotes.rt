@@ -5,7 +5,7 @@ ghost use Rattle.lexical_fields.specs.Fields.{field_length};
 ghost use Rattle.lexical_tables.specs.Quotes.{hidden, length_outside, quote};
 ghost use Rattle.lexical_tables.specs.Looks.{IsPassed};
 
-mod looks;
+pub(crate) mod looks;
 pub(crate) mod parities;
 
 use self::looks::look_at_16;

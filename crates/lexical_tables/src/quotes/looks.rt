@@ -18,7 +18,7 @@ pub(crate) struct Look {
 // Which bytes stand outside quotes, a bit for each, by the quotes among them and whether an odd number of these stands up to
 // each.
 #[inline(always)]
-fn outside_marks(quotes: u64, odd: u64, is_within: bool) -> u64
+pub(crate) fn outside_marks(quotes: u64, odd: u64, is_within: bool) -> u64
     ensures within { is_within ≡ true → (k : ℕ) → k < 64
         → bit_at result k ≡ (bit_at odd k + bit_at quotes k) % 2 }
     ensures outside { is_within ≡ false → (k : ℕ) → k < 64
@@ -30,7 +30,7 @@ fn outside_marks(quotes: u64, odd: u64, is_within: bool) -> u64
 
 // The separators outside quotes where no quote is among the bytes: all, or none.
 #[inline(always)]
-fn all_or_none(separators: u64, is_within: bool) -> u64
+pub(crate) fn all_or_none(separators: u64, is_within: bool) -> u64
     ensures within { is_within ≡ true → result ≡ 0 }
     ensures outside { is_within ≡ false → result ≡ separators }
 {

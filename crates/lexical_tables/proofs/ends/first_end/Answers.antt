@@ -5,14 +5,4 @@ pub returns : goal.returns
 returns c =
     let e = first_end c.args.has_quotes c.args.separator c.args.text.now c.args.marks c.lowest_mark.result c.requires.marks
     c.requires.quoted c.lowest_mark.ensures.set c.lowest_mark.ensures.below in
-    record {
-      room = e.room;
-      few = e.few;
-      line = e.line;
-      last = e.last;
-      cell = e.cell;
-      parts = e.parts;
-      before = e.before;
-      behind = e.behind;
-      left = e.left;
-    }
+    record { few = e.few; end = e.first; left = e.ends }

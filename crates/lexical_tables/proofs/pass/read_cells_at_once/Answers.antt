@@ -23,7 +23,7 @@ returns-then-part-clause-done g c = λ last start kinds old put.
     let now = map g.C.TableColumn.target c.read_coded_cell.new.targets in
     let cell : FieldView = record { start = start + (length text - length left); text = take part.result.size left } in
     let more : column < count_in d = grind (arith, nat_tests) in
-    let at = part.ensures.cells start column
+    let at = part.ensures.part.cells start column
     ∙ ap (λ t. cell ∷ cond t [] (cells_behind d row (column + 1) (length text - length (drop (part.result.end + 1) left)))) c.if-part.true in
     after_cell kinds d c.args.index row old before column _ (c.loop-column.invariant.4 start kinds old put) cell _ at more
     now (sym (c.if-not-read_coded_cell.ensures.fault refl cell.start)) (c.if-not-read_coded_cell.ensures.targets refl cell.start)
@@ -56,7 +56,7 @@ loop-column-preserved g c =
     let behind = c.behind_part-left in
     let first : FieldView = record { start = 0; text = take part.result.size left } in
     let more : column < count_in d = grind (arith, nat_tests) in (
-      subst (IsOnRow d c.args.separator text) (sym behind.ensures.text) (part.ensures.goes c.if-part.false),
+      subst (IsOnRow d c.args.separator text) (sym behind.ensures.text) (part.ensures.part.goes c.if-part.false),
       subst (λ l. AreEnds d.has_quotes c.args.separator l behind.result.marks) (sym behind.ensures.text)
           (subst (AreEnds d.has_quotes c.args.separator (drop (part.result.end + 1) left)) (sym behind.ensures.marks) part.ensures.ends),
       subst (AreCodes d c.args.codes.now) (sym (found.targets refl 0))
@@ -66,7 +66,7 @@ loop-column-preserved g c =
       λ start kinds old put.
           let row = first_row d start text in
           let cell : FieldView = record { start = start + (length text - length left); text = take part.result.size left } in
-          let at = part.ensures.cells start column
+          let at = part.ensures.part.cells start column
           ∙ ap (λ t. cell ∷ cond t [] (cells_behind d row (column + 1) (length text - length (drop (part.result.end + 1) left)))) c.if-part.false
           ∙ ap (λ l. cell ∷ cells_behind d row (column + 1) (length text - length l)) (sym behind.ensures.text) in
           after_cell kinds d c.args.index row old before column _ (c.loop-column.invariant.4 start kinds old put) cell _ at more

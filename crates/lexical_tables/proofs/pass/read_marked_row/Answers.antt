@@ -95,14 +95,14 @@ returns-then-not-read_left_cell-clause-fault g c =
     let part = c.next_part-part in
     let cell : FieldView = record { start = c.args.start + (length text - length left); text = take part.result.size left } in
     let apart : column ≢ c.args.columns = grind (arith, nat_tests) in
-    let more : column < count_in d = omega (arith, read.ensures.few c.loop-read.invariant.5, apart, c.requires.columns) in
+    let more : column < count_in d = omega (arith, read.ensures.columns c.loop-read.invariant.5, apart, c.requires.columns) in
     let now = map g.C.TableColumn.target c.read_left_cell.new.targets in
     let found = fault_in (answer_at d (kinds_of before) column cell) in
     let told : IsRowDone kinds d c.args.index row old now (option_map (wrong_cell c.args.index column) found) =
     some_wrong found c.if-not-read_left_cell.ensures.right
     (λ f. IsRowDone kinds d c.args.index row old now (option_map (wrong_cell c.args.index column) f))
     (λ fault is. after_fault kinds d c.args.index row old before column _ put cell _
-    (part.ensures.cells c.args.start column) more now fault is c.read_left_cell.ensures.targets) in
+    (part.ensures.part.cells c.args.start column) more now fault is c.read_left_cell.ensures.targets) in
     c.read_left_cell.ensures.fault ∙ told.fault_is
 
 pub returns-then-not-read_left_cell-clause-targets : goal.returns-then-not-read_left_cell-clause-targets
@@ -120,14 +120,14 @@ returns-then-not-read_left_cell-clause-targets g c =
     let part = c.next_part-part in
     let cell : FieldView = record { start = c.args.start + (length text - length left); text = take part.result.size left } in
     let apart : column ≢ c.args.columns = grind (arith, nat_tests) in
-    let more : column < count_in d = omega (arith, read.ensures.few c.loop-read.invariant.5, apart, c.requires.columns) in
+    let more : column < count_in d = omega (arith, read.ensures.columns c.loop-read.invariant.5, apart, c.requires.columns) in
     let now = map g.C.TableColumn.target c.read_left_cell.new.targets in
     let found = fault_in (answer_at d (kinds_of before) column cell) in
     let told : IsRowDone kinds d c.args.index row old now (option_map (wrong_cell c.args.index column) found) =
     some_wrong found c.if-not-read_left_cell.ensures.right
     (λ f. IsRowDone kinds d c.args.index row old now (option_map (wrong_cell c.args.index column) f))
     (λ fault is. after_fault kinds d c.args.index row old before column _ put cell _
-    (part.ensures.cells c.args.start column) more now fault is c.read_left_cell.ensures.targets) in
+    (part.ensures.part.cells c.args.start column) more now fault is c.read_left_cell.ensures.targets) in
     told.targets_are
 
 pub returns-then-part-clause-fault : goal.returns-then-part-clause-fault
@@ -145,10 +145,10 @@ returns-then-part-clause-fault g c =
     let part = c.next_part-part in
     let cell : FieldView = record { start = c.args.start + (length text - length left); text = take part.result.size left } in
     let apart : column ≢ c.args.columns = grind (arith, nat_tests) in
-    let more : column < count_in d = omega (arith, read.ensures.few c.loop-read.invariant.5, apart, c.requires.columns) in
+    let more : column < count_in d = omega (arith, read.ensures.columns c.loop-read.invariant.5, apart, c.requires.columns) in
     let now = map g.C.TableColumn.target c.read_left_cell.new.targets in
     let fine = none_wrong _ c.if-not-read_left_cell.ensures.right in
-    let at = part.ensures.cells c.args.start column
+    let at = part.ensures.part.cells c.args.start column
     ∙ ap (λ t. cell ∷ cond t [] (cells_behind d row (column + 1) (length text - length (drop (part.result.end + 1) left)))) c.if-part.true in
     let one_more = after_cell kinds d c.args.index row old before column _ put cell _ at more now fine c.read_left_cell.ensures.targets in
     let done = row_ends kinds d c.args.index row old now (column + 1) [] one_more c.end_row-then-part.new.wrong (inl refl)
@@ -170,10 +170,10 @@ returns-then-part-clause-targets g c =
     let part = c.next_part-part in
     let cell : FieldView = record { start = c.args.start + (length text - length left); text = take part.result.size left } in
     let apart : column ≢ c.args.columns = grind (arith, nat_tests) in
-    let more : column < count_in d = omega (arith, read.ensures.few c.loop-read.invariant.5, apart, c.requires.columns) in
+    let more : column < count_in d = omega (arith, read.ensures.columns c.loop-read.invariant.5, apart, c.requires.columns) in
     let now = map g.C.TableColumn.target c.read_left_cell.new.targets in
     let fine = none_wrong _ c.if-not-read_left_cell.ensures.right in
-    let at = part.ensures.cells c.args.start column
+    let at = part.ensures.part.cells c.args.start column
     ∙ ap (λ t. cell ∷ cond t [] (cells_behind d row (column + 1) (length text - length (drop (part.result.end + 1) left)))) c.if-part.true in
     let one_more = after_cell kinds d c.args.index row old before column _ put cell _ at more now fine c.read_left_cell.ensures.targets in
     let done = row_ends kinds d c.args.index row old now (column + 1) [] one_more c.end_row-then-part.new.wrong (inl refl)
@@ -195,14 +195,14 @@ loop-read-preserved g c =
     let part = c.next_part-part in
     let cell : FieldView = record { start = c.args.start + (length text - length left); text = take part.result.size left } in
     let apart : column ≢ c.args.columns = grind (arith, nat_tests) in
-    let more : column < count_in d = omega (arith, read.ensures.few c.loop-read.invariant.5, apart, c.requires.columns) in
+    let more : column < count_in d = omega (arith, read.ensures.columns c.loop-read.invariant.5, apart, c.requires.columns) in
     let now = map g.C.TableColumn.target c.read_left_cell.new.targets in
     let behind = c.behind_part-left in
     let fine = none_wrong _ c.if-not-read_left_cell.ensures.right in
-    let at = part.ensures.cells c.args.start column
+    let at = part.ensures.part.cells c.args.start column
     ∙ ap (λ t. cell ∷ cond t [] (cells_behind d row (column + 1) (length text - length (drop (part.result.end + 1) left)))) c.if-part.false
     ∙ ap (λ l. cell ∷ cells_behind d row (column + 1) (length text - length l)) (sym behind.ensures.text) in (
-      subst (IsOnRow d c.args.separator text) (sym behind.ensures.text) (part.ensures.goes c.if-part.false),
+      subst (IsOnRow d c.args.separator text) (sym behind.ensures.text) (part.ensures.part.goes c.if-part.false),
       subst (λ l. AreEnds d.has_quotes c.args.separator l behind.result.marks) (sym behind.ensures.text)
           (subst (AreEnds d.has_quotes c.args.separator (drop (part.result.end + 1) left)) (sym behind.ensures.marks) part.ensures.ends),
       subst (AreCodes d c.args.codes.now) (sym c.read_left_cell.ensures.targets)

@@ -3,7 +3,7 @@ use Rattle.std.proofs.lemmas.Bool.Decides.{nat_tests}
 use Rattle.lexical_tables.specs.ByColumn.{end_fault}
 use Rattle.lexical_tables.specs.Rows.{first_row}
 use Rattle.lexical_tables.proofs.PassSteps.{end_fine}
-use Rattle.lexical_tables.proofs.pass.end_row.Goals as goal
+use Rattle.lexical_tables.proofs.row_end.end_row.Goals as goal
 
 pub returns-then-not-lacks_return-clause-fault : goal.returns-then-not-lacks_return-clause-fault
 returns-then-not-lacks_return-clause-fault c =

@@ -9,7 +9,7 @@ use Rattle.lexical_fields.specs.ReadFields.{field_answer}
 use Rattle.lexical_tables.specs.Readings.{Number, answer_by}
 use Rattle.jadvolni.specs.Tables.{reading_of}
 use Rattle.jadvolni.proofs.ColumnNumbers.{fault_there, integer_answer, put_there, room_for, valid_integers}
-use Rattle.jadvolni.proofs.table_columns.ColumnFields.put_other_number.Goals as goal
+use Rattle.jadvolni.proofs.table_columns.ColumnFields.put_by_format.Goals as goal
 
 none_is : (found : Option Error) → found ≡ None → IsNone found
 none_is None is = refl

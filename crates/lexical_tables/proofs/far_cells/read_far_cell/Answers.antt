@@ -1,0 +1,75 @@
+use Rattle.std.proofs.Common.{◌≡◌, ◌∙◌, ◌+◌, ◌-◌, ◌<◌, ◌∷◌, [], None, ap, arith, cond, drop, inl, length, map, refl, subst, sym, take}
+use Rattle.std.specs.Prelude.{option_map}
+use Rattle.lexical_fields.specs.Fields.{FieldView}
+use Rattle.lexical_tables.specs.ByColumn.{answer_at, end_fault, fault_in, kinds_of, wrong_cell}
+use Rattle.lexical_tables.specs.Codes.{AreCodes}
+use Rattle.lexical_tables.specs.RowSoFar.{IsRowDone, cells_behind, count_in}
+use Rattle.lexical_tables.specs.Rows.{first_row}
+use Rattle.lexical_tables.proofs.CodeSteps.{codes_put}
+use Rattle.lexical_tables.proofs.ColumnSteps.{after_cell, after_fault, row_ends}
+use Rattle.lexical_tables.proofs.PassSteps.{none_wrong, some_wrong}
+use Rattle.lexical_tables.proofs.far_cells.read_far_cell.Goals as goal
+
+pub returns-then-not-read_left_cell-clause-done : goal.returns-then-not-read_left_cell-clause-done
+returns-then-not-read_left_cell-clause-done g c = λ is_done kinds old put.
+    let d = c.args.dialect.now in
+    let text = c.args.text.now in
+    let left = c.args.left.now in
+    let row = first_row d c.args.start text in
+    let before = map g.C.TableColumn.target c.args.targets.now in
+    let now = map g.C.TableColumn.target c.read_left_cell.new.targets in
+    let part = c.in-Some.found.part in
+    let cell : FieldView = record { start = c.args.start + (length text - length left); text = take part.size left } in
+    let more : c.args.column < count_in d = omega (arith, c.requires.more, c.requires.columns) in
+    let found = fault_in (answer_at d (kinds_of before) c.args.column cell) in
+    subst (IsRowDone kinds d c.args.index row old now) (sym c.if-not-read_left_cell.ensures.fault)
+    (some_wrong found c.if-not-read_left_cell.ensures.right
+    (λ f. IsRowDone kinds d c.args.index row old now (option_map (wrong_cell c.args.index c.args.column) f))
+    (λ fault is. after_fault kinds d c.args.index row old before c.args.column _ put cell _
+    (c.in-Some.ensures.part.cells c.args.start c.args.column) more now fault is c.read_left_cell.ensures.targets))
+
+pub returns-then-not-found-clause-goes_on : goal.returns-then-not-found-clause-goes_on
+returns-then-not-found-clause-goes_on g c = λ goes kinds old put.
+    let d = c.args.dialect.now in
+    let text = c.args.text.now in
+    let left = c.args.left.now in
+    let start = c.args.start in
+    let row = first_row d start text in
+    let column = c.args.column in
+    let before = map g.C.TableColumn.target c.args.targets.now in
+    let now = map g.C.TableColumn.target c.read_left_cell.new.targets in
+    let part = c.in-Some.found.part in
+    let cell : FieldView = record { start = start + (length text - length left); text = take part.size left } in
+    let more : column < count_in d = omega (arith, c.requires.more, c.requires.columns) in
+    let at = c.in-Some.ensures.part.cells start column
+    ∙ ap (λ t. cell ∷ cond t [] (cells_behind d row (column + 1) (length text - length (drop (part.end + 1) left)))) c.if-not-found.true
+    ∙ ap (λ l. cell ∷ cells_behind d row (column + 1) (length text - length l)) (sym c.in-Some.ensures.behind.text) in
+    let fine = none_wrong _ c.if-not-read_left_cell.ensures.right in
+    after_cell kinds d c.args.index row old before column _ put cell _ at more now fine c.read_left_cell.ensures.targets
+
+pub returns-then-not-found-clause-codes : goal.returns-then-not-found-clause-codes
+returns-then-not-found-clause-codes g c = λ goes.
+    let d = c.args.dialect.now in
+    let before = map g.C.TableColumn.target c.args.targets.now in
+    let cell : FieldView = record { start = c.args.start + (length c.args.text.now - length c.args.left.now); text = take c.in-Some.found.part.size c.args.left.now } in
+    subst (AreCodes d c.args.codes.now) (sym c.read_left_cell.ensures.targets)
+    (codes_put d c.args.codes.now c.args.index c.args.column (answer_at d (kinds_of before) c.args.column cell) before c.requires.codes)
+
+pub returns-clause-done : goal.returns-clause-done
+returns-clause-done g c = λ is_done kinds old put.
+    let d = c.args.dialect.now in
+    let text = c.args.text.now in
+    let left = c.args.left.now in
+    let row = first_row d c.args.start text in
+    let column = c.args.column in
+    let before = map g.C.TableColumn.target c.args.targets.now in
+    let now = map g.C.TableColumn.target c.read_left_cell.new.targets in
+    let part = c.in-Some.found.part in
+    let cell : FieldView = record { start = c.args.start + (length text - length left); text = take part.size left } in
+    let more : column < count_in d = omega (arith, c.requires.more, c.requires.columns) in
+    let fine = none_wrong _ c.if-not-read_left_cell.ensures.right in
+    let at = c.in-Some.ensures.part.cells c.args.start column
+    ∙ ap (λ t. cell ∷ cond t [] (cells_behind d row (column + 1) (length text - length (drop (part.end + 1) left)))) c.if-not-found.false in
+    let one_more = after_cell kinds d c.args.index row old before column _ put cell _ at more now fine c.read_left_cell.ensures.targets in
+    row_ends kinds d c.args.index row old now (column + 1) [] one_more c.end_row.new.wrong (inl refl)
+    (c.end_row.ensures.fault ∙ ap (λ n. end_fault n c.args.index row (column + 1) None) c.requires.columns)

@@ -1,0 +1,66 @@
+//! The end of a row whose cells were read.
+
+ghost use Rattle.std.specs.Prelude.{◌≡◌, ◌+◌, ◌<◌, ◌≤◌, ◌^◌, None, length, true};
+ghost use Rattle.lexical_tables.specs.ByColumn.{column_count, end_fault};
+ghost use Rattle.lexical_tables.specs.Ends.{AreEnds};
+ghost use Rattle.lexical_tables.specs.RowSoFar.{IsBehind, IsPart};
+ghost use Rattle.lexical_tables.specs.Rows.{behind_piece, first_row};
+
+use crate::answers::TableError;
+use crate::by_column::put_end_fault;
+use crate::dialect::Dialect;
+use crate::next_part::{Left, Part, lacks_return};
+use crate::rows::Row;
+
+// How far a row was read: what is left of its text, behind so many columns, and the part that is there first. If that is the row's
+// last, it was read too, and is counted.
+#[derive(Copy, Clone)]
+pub(crate) struct ReadTo<'a> {
+    pub left: Left<'a>,
+    pub column: usize,
+    pub part: Part,
+}
+
+// Tells what is wrong with the end of a row whose last cell was read, behind which this is left of the text: that is left of it
+// behind the row.
+#[inline(always)]
+pub(crate) fn end_row<'a>(
+    start: usize,
+    text: &[u8],
+    read: ReadTo<'_>,
+    behind: Left<'a>,
+    index: usize,
+    columns: usize,
+    separator: u8,
+    dialect: &Dialect<'_>,
+    wrong: &mut Option<TableError>,
+) -> Left<'a>
+    requires fine { wrong.old ≡ None }
+    requires columns { columns ≡ column_count dialect.now.layout }
+    requires few { read.column ≤ columns }
+    requires within { length read.left.text.now ≤ length text.now }
+    requires part { IsPart dialect.now separator text.now read.left.text.now read.part }
+    requires last { read.part.is_last ≡ true }
+    requires behind { IsBehind dialect.now separator read.left.text.now read.part.end
+        behind.text.now behind.marks }
+    requires fits { start + length text.now < 2 ^ 64 }
+    ensures fault { wrong.new ≡ end_fault columns index (first_row dialect.now start text.now)
+        read.entry.column None }
+    ensures behind { result.text.now
+        ≡ behind_piece dialect.now.layout dialect.now.has_quotes text.now }
+    ensures shorter { length result.text.now < length read.entry.left.text.now }
+    ensures marks { AreEnds dialect.now.has_quotes separator result.text.now result.marks }
+{
+    let left = read.left.text;
+    let lacks_return = lacks_return(left, read.part.size, dialect.has_returns);
+    if read.column == columns && !lacks_return {
+        return behind;
+    }
+    let row = Row {
+        start,
+        text: &text[..text.len() - left.len() + read.part.size],
+        lacks_return,
+    };
+    put_end_fault(&row, index, columns, read.column, None, wrong);
+    behind
+}
