@@ -7,23 +7,24 @@ use Rattle.lexical_util.specs.Format.{Format}
 use Rattle.lexical_util.specs.Validity.{fault}
 use Rattle.lexical_fields.specs.Fields.{FieldView}
 use Rattle.lexical_tables.specs.ByColumn.{IsUsable, fault_in, kind_of, put_read}
-use Rattle.lexical_tables.specs.Cells.{answer_as, ends_in_digit}
+use Rattle.lexical_tables.specs.Cells.{answer_as, ends_in_digit, quote_fault, unless}
 use Rattle.lexical_tables.specs.Codes.{AreCoded, AreQuotesRound, IsCodeIn, IsDecimal, IsNumberPut, IsNumeralUnder, coded_type, has_coded_bits, has_zero_rule}
 use Rattle.lexical_tables.specs.Readings.{FixedPoints, Integers, IsValid, Number, Reading, Texts}
 use Rattle.lexical_tables.specs.Targets.{TargetView}
 use Rattle.lexical_tables.specs.declared.dialect.Dialect.{Dialect}
-use Rattle.lexical_tables.proofs.PlainCells.{integers, plain_answer, quoted_answer, unread_answer}
+use Rattle.lexical_tables.proofs.PlainCells.{integers, plain_answer, quoted_answer}
 
 -- What is answered of a cell, and what the target then is: no fault.
 pub record IsCellPut (d : Dialect) (row : ℕ) (cell : FieldView) (old new : Option TargetView) : Type 0 where
   pub fault : fault_in (answer_as d (option_map kind_of old) cell) ≡ None
   pub target : new ≡ option_map (put_read row (answer_as d (option_map kind_of old) cell)) old
 
--- a column that isn't read
+-- a column that isn't read, whose quotes are in place
 pub unread_put : (d : Dialect) (row : ℕ) (cell : FieldView) (target : Option TargetView) → is_some target ≡ false
-    → d.has_quotes ≡ false → IsCellPut d row cell target target
-unread_put d row cell None none unquoted = record { fault = ap fault_in (unread_answer d cell unquoted); target = refl }
-unread_put d row cell (Some target) none unquoted = absurd cc
+    → None ≡ quote_fault d.has_quotes false cell → IsCellPut d row cell target target
+unread_put d row cell None none fine =
+    record { fault = ap (λ found. fault_in (unless found (Ok None))) (sym fine); target = refl }
+unread_put d row cell (Some target) none fine = absurd cc
 
 module _ (start size : ℕ) (ahead : List ℕ) where
   abbrev cell : FieldView

@@ -9,6 +9,7 @@ ghost use Rattle.lexical_tables.specs.Codes.{AreQuotesRound, IsCodeIn, IsDecimal
 
 use crate::codes::{NOT_READ, U8, WITH_ZERO_RULE};
 use crate::dialect::Dialect;
+use crate::misplaced::shows_no_fault;
 use crate::targets::TableColumn;
 use lexical_fields::{long_number_of_front, number_of_front};
 
@@ -104,7 +105,7 @@ pub(crate) fn read_coded<C: TableColumn, const HAS_QUOTES: bool>(
     ensures kept { result ≡ false → C.target target.new ≡ C.target target.old }
 {
     if code < U8 {
-        return code == NOT_READ && !HAS_QUOTES;
+        return code == NOT_READ && shows_no_fault(HAS_QUOTES, ahead, size);
     }
     let (held, count) = within_quotes(ahead, size, HAS_QUOTES);
     put_found(target, code, row, held, count, number_of_front(held, count))
