@@ -1,12 +1,11 @@
 //! Whether the quotes of a cell are in place.
 
-ghost use Rattle.std.specs.Prelude.{◌≡◌, ◌≢◌, ◌+◌, ◌<◌, ◌≤◌, ◌^◌, ℕ, length, take, drop, slice_index, false, true, IfSome, IsTrue, None};
+ghost use Rattle.std.specs.Prelude.{◌≡◌, ◌≢◌, ◌+◌, ◌<◌, ◌≤◌, ◌^◌, ℕ, length, drop, slice_index, true, IfSome};
 ghost use Rattle.lexical_tables.specs.Cells.{begins_with_quote, fault_round_number, fault_round_text, first_quote, misplaced_quote, quote_fault, view_of_cell};
 ghost use Rattle.lexical_tables.specs.Quotes.{quote};
 
 use crate::answers::CellFault;
 use crate::content::Cell;
-use crate::quotes::shows_no_quote;
 use lexical_fields::field_length;
 
 // Whether a text's first byte is a quote.
@@ -108,18 +107,4 @@ pub(crate) fn quote_fault(has_quotes: bool, is_number: bool, cell: Cell<'_>) -> 
         Some(place) => Some(CellFault::MisplacedQuote(cell.start + place)),
         None => None,
     }
-}
-
-// Whether it is seen at once that no quote is out of place in a cell that isn't read, the first bytes of a text, so many: since
-// quotes have no meaning, or one look shows none.
-#[inline(always)]
-pub(crate) fn shows_no_fault(has_quotes: bool, ahead: &[u8], size: usize) -> bool
-    requires room { size + 17 ≤ length ahead.now }
-    ensures { IsTrue result → (start : ℕ) → None ≡ quote_fault has_quotes false
-        (record { start = start; text = take size ahead.now }) }
-{
-    if !has_quotes {
-        return true;
-    }
-    shows_no_quote(ahead, size)
 }
