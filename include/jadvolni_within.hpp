@@ -14,16 +14,17 @@ class within_result : public result<T> {
 public:
     within_result(T number, jadvolni_result answer) noexcept : result<T>(number, answer) {}
 
-    // One that is out of bounds.
-    within_result(jadvolni_status answer, std::string_view given, T min, T max) noexcept
+    // One that is out of bounds, which have so many places behind a point.
+    within_result(jadvolni_status answer, std::string_view given, T min, T max, std::size_t places = 0,
+                  char point = '.') noexcept
         : result<T>(T(), {static_cast<std::uint32_t>(answer), 0})
     {
         put_text(given.substr(0, given_most));
         if (given.size() > given_most) put("..");
         put(" is not from ");
-        put_number(min);
+        put_number(min, places, point);
         put(" to ");
-        put_number(max);
+        put_number(max, places, point);
         message_[size_] = 0;
     }
 
@@ -33,7 +34,7 @@ public:
 
 private:
     // So many bytes of a text are told, of which four may stand for one.
-    static constexpr std::size_t given_most = 40, number_most = 40, words_most = 24;
+    static constexpr std::size_t given_most = 40, digits_most = 40, number_most = digits_most + 5, words_most = 24;
 
     void put(char byte) noexcept { message_[size_++] = byte; }
     void put(const char *words) noexcept
@@ -56,16 +57,19 @@ private:
         }
     }
 
-    void put_number(T number) noexcept
+    // A number in units of the last of some places, of which there are 38 at most: a digit stands before the point.
+    void put_number(T number, std::size_t places, char point) noexcept
     {
-        char digits[number_most];
+        char digits[digits_most];
         std::size_t count = 0;
         const bool is_negative = number < T(1) && number != T(0);
-        for (; number != T(0) || count == 0; number = static_cast<T>(number / 10)) {
+        for (; number != T(0) || count <= places; number = static_cast<T>(number / 10)) {
             auto digit = static_cast<int>(number % 10);
             digits[count++] = static_cast<char>('0' + (is_negative ? -digit : digit));
         }
         if (is_negative) put('-');
+        while (count > places) put(digits[--count]);
+        if (places) put_text({&point, 1});
         while (count) put(digits[--count]);
     }
 
@@ -81,15 +85,35 @@ inline bool is_beyond(jadvolni_result answer) noexcept
 }
 
 // What else is wrong with a text than that a type lacks its number, which answers so: the widest type with a sign
-// tells, in which "-5" and "70000" are numbers. Where that is all, it is by which end the number leaves.
-inline jadvolni_result fault_beside_bounds(std::string_view text, const format &under, jadvolni_result answer) noexcept
+// tells, by its answer and the number, in which "-5" and "70000" are numbers. Where that is all, it is by which end the
+// number leaves.
+inline jadvolni_result fault_beside_bounds(jadvolni_result answer, jadvolni_result other,
+                                           const jadvolni_int128 &wide) noexcept
 {
-    jadvolni_int128 wide{};
-    auto other = jadvolni_parse_i128_with_format(text.data(), text.size(), &under, &wide);
     const bool is_negative = other.status == JADVOLNI_OK ? wide.high < 0 : other.status == JADVOLNI_UNDERFLOW;
     if (is_negative) return {JADVOLNI_UNDERFLOW, 0};
     if (is_beyond(answer) && other.status == JADVOLNI_OK) return answer;
     return is_beyond(answer) || is_beyond(other) ? other : answer;
+}
+
+// The whole text as a T within bounds, by the call of the type and that of the widest one with a sign.
+template <class T, class Call, class Widest, class Notation>
+within_result<T> number_within(std::string_view text, T min, T max, Call call, Widest widest, const Notation &under,
+                               std::size_t places = 0, char point = '.') noexcept
+{
+    typename kept_as<T>::type kept{};
+    auto answer = call(text.data(), text.size(), &under, &kept);
+    const T number = kept_as<T>::number(kept);
+    if (answer.status != JADVOLNI_OK) {
+        jadvolni_int128 wide{};
+        auto other = widest(text.data(), text.size(), &under, &wide);
+        answer = fault_beside_bounds(answer, other, wide);
+        if (!is_beyond(answer)) return {T(), answer};
+        return {static_cast<jadvolni_status>(answer.status), text, min, max, places, point};
+    }
+    if (number < min) return {JADVOLNI_UNDERFLOW, text, min, max, places, point};
+    if (max < number) return {JADVOLNI_OVERFLOW, text, min, max, places, point};
+    return {number, answer};
 }
 
 } // namespace detail
@@ -102,17 +126,19 @@ template <class T>
 [[nodiscard]] within_result<T> parse_within(std::string_view text, T min, T max,
                                             const format &under = standard) noexcept
 {
-    typename detail::kept_as<T>::type kept{};
-    auto answer = detail::calls_as<T>::complete_under(text.data(), text.size(), &under, &kept);
-    const T number = detail::kept_as<T>::number(kept);
-    if (answer.status != JADVOLNI_OK) {
-        answer = detail::fault_beside_bounds(text, under, answer);
-        if (!detail::is_beyond(answer)) return {T(), answer};
-        return {static_cast<jadvolni_status>(answer.status), text, min, max};
-    }
-    if (number < min) return {JADVOLNI_UNDERFLOW, text, min, max};
-    if (max < number) return {JADVOLNI_OVERFLOW, text, min, max};
-    return {number, answer};
+    return detail::number_within(text, min, max, detail::calls_as<T>::complete_under,
+                                 &jadvolni_parse_i128_with_format, under);
+}
+
+// The fixed-point number that the whole text is, as a T from `min` to `max`, all in units of the last place:
+//
+//     auto fee = jadvolni::parse_fixed_within<std::int64_t>(text, 0, 9999, cents);
+//     if (!fee) std::cerr << fee.message() << '\n'; // -1.00 is not from 0.00 to 99.99
+template <class T>
+[[nodiscard]] within_result<T> parse_fixed_within(std::string_view text, T min, T max, const fixed &under) noexcept
+{
+    return detail::number_within(text, min, max, detail::calls_as<T>::fixed, &jadvolni_parse_i128_fixed, under,
+                                 under.places, under.point ? static_cast<char>(under.point) : '.');
 }
 
 } // namespace jadvolni

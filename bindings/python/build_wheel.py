@@ -43,8 +43,8 @@ FLAGS = ["-std=c11", "-O3", "-Wall", "-Wextra", "-fPIC", "-fno-plt", "-shared",
 LINK_FLAGS = ["-Wl,--exclude-libs,ALL", "-Wl,-z,x86-64-v2"]
 MODULES = ["__init__.py", "_arrays.py", "_arrow.py", "_blocks.py", "_faults.py", "_files.py",
            "_fixed.py", "_format.py", "formats.py", "_header.py", "_lines.py", "_numpy.py",
-           "_reader.py", "_rows.py", "_table.py", "_tables.py", "_texts.py", "_threads.py",
-           "_core.pyi", "py.typed"]
+           "_pool.py", "_reader.py", "_rows.py", "_table.py", "_tables.py", "_texts.py",
+           "_threads.py", "_widths.py", "_core.pyi", "py.typed"]
 LINK = re.compile(r"\[([^]]*)\]\((?:\.\./\.\./([^)#]*))?[^)]*\)")
 
 

@@ -206,6 +206,49 @@ static void bounds()
 #endif
 }
 
+// ---- amounts within bounds
+
+template <class T>
+static void amount(std::string_view text, T min, T max, const jadvolni::fixed &under, const std::string &wanted)
+{
+    auto read = jadvolni::parse_fixed_within(text, min, max, under);
+    auto whole = jadvolni::parse_fixed<T>(text, under);
+    CHECK(read.has_value() == (whole.has_value() && *whole >= min && *whole <= max));
+    CHECK(!read || (*read == *whole && read.place() == text.size()));
+    CHECK(std::string(read.message()) == wanted);
+}
+
+static void bounds_of_amounts()
+{
+    jadvolni::fixed cents{}, euros{}, none{}, strange{}, many{}, broken{};
+    cents.integer = euros.integer = none.integer = strange.integer = many.integer = broken.integer = jadvolni::standard;
+    cents.places = euros.places = strange.places = 2, many.places = 38, broken.places = 39;
+    euros.point = ',', euros.integer.digit_separator = '.', euros.integer.integer_internal_digit_separator = 1;
+    strange.point = 0xB7;
+    amount<std::int64_t>("12.50", 0, 9999, cents, "no fault");
+    amount<std::int64_t>("-1.00", 0, 9999, cents, "-1.00 is not from 0.00 to 99.99");
+    amount<std::uint16_t>("-1.00", 5, 9999, cents, "-1.00 is not from 0.05 to 99.99");
+    amount<std::uint8_t>("1234.56", 0, 255, cents, "1234.56 is not from 0.00 to 2.55");
+    amount<std::int8_t>("-1.29", -128, 127, cents, "-1.29 is not from -1.28 to 1.27");
+    amount<int>("100.00", -5, 9999, cents, "100.00 is not from -0.05 to 99.99");
+    amount<int>("100.0x", -5, 9999, cents, "invalid digit");
+    amount<std::uint8_t>("99999.9", 0, 5, cents, "missing digit");
+    amount<std::uint8_t>("-0.00", 0, 5, cents, "invalid digit");
+    amount<int>("1.234,50", -5, 9999, euros, "1.234,50 is not from -0,05 to 99,99");
+    amount<int>("7", 0, 5, none, "7 is not from 0 to 5");
+    amount<int>("9\xB7" "99", 0, 5, strange, "9\\xb799 is not from 0\\xb700 to 0\\xb705");
+    amount<int>("1", 0, 5, broken, jadvolni_status_text(JADVOLNI_INVALID_PLACES));
+    CHECK(jadvolni::parse_fixed_within<int>("6.00", 1, 5, cents).status() == status::overflow);
+    CHECK(jadvolni::parse_fixed_within<int>("0.00", 1, 5, cents).status() == status::underflow);
+#ifdef __SIZEOF_INT128__
+    jadvolni_native_int128 greatest = (~jadvolni_native_uint128{} >> 1), least = -greatest - 1;
+    auto past = jadvolni::parse_fixed_within("9." + std::string(38, '9'), least, greatest, many);
+    std::string end = "70141183460469231731687303715884105728", last = end;
+    last.back() = '7';
+    CHECK(past.message() == "9." + std::string(38, '9') + " is not from -1." + end + " to 1." + last);
+#endif
+}
+
 int main()
 {
     names();
@@ -214,5 +257,6 @@ int main()
     rows();
     rows_in_blocks();
     bounds();
+    bounds_of_amounts();
     return checked();
 }

@@ -159,7 +159,7 @@ class Attributes(unittest.TestCase):
             self.assertEqual((error.row, error.line, error.place), (3, 4, 28))
             strange = pathlib.Path(os.fsdecode(os.fsencode(folder) + b"/\xff"))
             strange.write_bytes(b"x")
-            self.assertIn("\udcff, line 1", str(fault_of(read_table, strange, {"a": "u8"})))
+            self.assertIn("\\xff, line 1", str(fault_of(read_table, strange, {"a": "u8"})))
 
     def test_a_shell_shows_it(self):
         code = "import jadvolni, sys\n" \

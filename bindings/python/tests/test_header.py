@@ -194,12 +194,58 @@ class Names(unittest.TestCase):
         wide = {"separator": "|", "header": True}
         self.assertRaises(ParseError, parse_table, "a|b\n1|x\n", {"b": "u8"}, **wide)
 
+    def test_widths(self):
+        text = b"id day  amount\n 12x    -100  \n  3longe5     \n"
+        how = {"widths": [3, 5, 6], "allows_blanks": True}
+        wanted = {"amount": [-100, 5], "id": [12, 3]}
+        self.assertEqual(self.found(text, COLUMNS, **how), wanted)
+        self.assertEqual(self.found(b"\xef\xbb\xbf" + text, COLUMNS, **how), wanted)
+        returns = text.replace(b"\n", b"\r\n")
+        self.assertEqual(self.found(returns, COLUMNS, **how, has_returns=True), wanted)
+        self.assertEqual(self.found(returns, COLUMNS, **how, allows_returns=True), wanted)
+        self.assertEqual(self.found(b"\n\n" + text, COLUMNS, **how, skips_empty_rows=True), wanted)
+        self.assertEqual(self.found(text[:15], COLUMNS, **how), {"amount": [], "id": []})
+        self.assertEqual(self.found(b'"i""d"x\n12    3\n', {'i"d': "u8"}, widths=[6, 1],
+                                    has_quotes=True, allows_blanks=True), {'i"d': [12]})
+        once = parse_table(text, COLUMNS, header=True, widths=iter([3, 5, 6]), allows_blanks=True)
+        self.assertEqual(test_tables.lists(once), wanted)
+        self.assertEqual(self.found(text.replace(b"-100", b"-1x0"), COLUMNS, **how)[-1],
+                         'line 2, "amount": "-1x0  ": invalid digit at byte 2 of the cell')
+
+    def test_wrong_widths(self):
+        text = b"id day  amount\n 12x    -100  \n"
+        for widths, told in (
+            ([3, 5, 7], "the header has 14 bytes, and the widths have 15"),
+            ([3, 5], "the header has 14 bytes, and the widths have 8"),
+            ([], "the header has 14 bytes, and the widths have 0"),
+            ([3, 5, -1], "a width has to be from 0 to 9223372036854775807, and not -1"),
+        ):
+            with self.assertRaises(ValueError) as caught:
+                parse_table(text, COLUMNS, header=True, widths=widths, allows_blanks=True)
+            self.assertEqual(str(caught.exception), told)
+        with self.assertRaisesRegex(TypeError, "widths has to be a list or None, and not int"):
+            parse_table(text, COLUMNS, header=True, widths=7)
+        with self.assertRaisesRegex(ValueError, "separator has to be None where there are widths"):
+            parse_table(text, COLUMNS, ",", header=True, widths=[3, 5, 6])
+        with self.assertRaisesRegex(ValueError, "header has to be False where is_records is true"):
+            parse_table(text, COLUMNS, header=True, widths=[3, 5, 6], is_records=True)
+
+    def test_why_a_name_may_lack(self):
+        for text, given, hint in (
+            (b"id day  amount\n", {"widths": [3, 5, 6]}, "; allows_blanks may have to be True"),
+            (b"id, amount\n", {}, "; allows_blanks may have to be True"),
+            (b"id, amount\n", {"allows_blanks": True, "separator": ";"},
+             "; separator may have to be ','"),
+            ("id,amount\n".encode("utf-16"), {}, "; the text may be UTF-16, and has to be UTF-8"),
+        ):
+            with self.assertRaises(ValueError) as caught:
+                parse_table(text, COLUMNS, header=True, **given)
+            self.assertEqual(str(caught.exception)[-len(hint):], hint)
+
     def test_wrong_arguments(self):
         for header in "yes", 1, None, ["a"]:
             with self.assertRaisesRegex(TypeError, "header has to be True or False, and not"):
                 parse_table(TEXT, COLUMNS, header=header)
-        with self.assertRaisesRegex(ValueError, "header has to be False where there are widths"):
-            parse_table(TEXT, COLUMNS, header=True, widths=[1, 2])
         for call in (lambda *it, **more: parse_table(TEXT, *it, **more),
                      lambda *it, **more: next(iter_table(io.BytesIO(TEXT), *it, **more))):
             with self.assertRaisesRegex(ValueError, "separator has to be one byte, and not 2"):

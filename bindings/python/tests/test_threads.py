@@ -1,5 +1,6 @@
 """Tests of tables that threads read: beside one thread, and misused."""
 
+import io
 import mmap
 import os
 import pathlib
@@ -13,6 +14,7 @@ import threading
 import time
 import unittest
 from array import array
+from contextlib import contextmanager
 from unittest import mock
 
 import jadvolni
@@ -46,6 +48,17 @@ def told(text, columns, **given):
     except ParseError as error:
         return fault_of(error)
     return lists(table)
+
+
+def blocks_of(text, columns, **given):
+    """How many rows are read of a text block by block, and how many bad ones, and the fault."""
+    rows = bad = 0
+    try:
+        for table in jadvolni.iter_table(io.BytesIO(text), columns, **given):
+            rows, bad = rows + len(table["d"]), bad + table.bad_rows
+    except ParseError as error:
+        return rows, bad, fault_of(error)
+    return rows, bad, None
 
 
 def random_row(chance, end):
@@ -136,6 +149,78 @@ class Threads(unittest.TestCase):
             self.assertEqual((caught.exception.row, caught.exception.place), (1000, 2000))
             with open(path, "rb") as file, mmap.mmap(file.fileno(), 8, prot=mmap.PROT_READ) as text:
                 self.assertEqual(parse_table(text, {"a": "u8"}, threads=2)["a"].tolist(), [1] * 4)
+
+    def test_threads_for_a_path(self):
+        """Where none are asked for, each core has one, if there is a block for each."""
+        columns, text = {"a": "u8"}, b"1\n" * 500 + b"x\n" * 7 + b"2\n" * 500
+        with tempfile.TemporaryDirectory() as folder:
+            path = pathlib.Path(folder, "table")
+            path.write_bytes(text)
+            wanted = told(text, columns, on_error="skip")
+            out = {"a": array("B", [0] * 1007)}
+            for size, more, threads in ((100, {}, 8), (300, {}, 6), (1500, {}, None),
+                                        (100, {"threads": 1}, None), (100, {"threads": 3}, 3),
+                                        (100, {"out": out}, None), (100, {"mmap": True}, None)):
+                bad = []
+                with self.pools() as found:
+                    table = read_table(path, columns, size=size, on_error="skip", errors=bad,
+                                       **more)
+                self.assertEqual(found, [] if threads is None else [threads])
+                self.assertEqual((lists(table), table.bad_rows), (wanted, 7))
+                self.assertEqual([it.row for it in bad], [*range(500, 507)])
+            with self.pools() as found, open(path, "rb") as file:
+                self.assertEqual(lists(read_table(file, columns, size=9, on_error="skip")), wanted)
+                with self.assertRaises(ParseError) as caught:
+                    read_table(path, columns, size=9)
+            self.assertEqual((found, caught.exception.row, caught.exception.line), ([8], 500, 500))
+
+    def test_a_pipe_by_its_path(self):
+        """One thread reads it, since nobody knows how many blocks it has."""
+        reads, writes = os.pipe()
+        self.addCleanup(os.close, reads)
+        os.write(writes, b"1\nx\n" * 999)
+        os.close(writes)
+        with self.pools() as found:
+            table = read_table(f"/dev/fd/{reads}", {"a": "u8"}, size=90, on_error="skip")
+        self.assertEqual((found, len(table["a"]), table.bad_rows), ([], 999, 999))
+
+    @contextmanager
+    def pools(self):
+        """How many threads each pool may have, on a machine of eight cores."""
+        found, make = [], jadvolni._threads.Pool
+
+        def pool(most):
+            found.append(most)
+            return make(most)
+
+        with mock.patch("jadvolni._threads.Pool", pool), \
+                mock.patch("os.sched_getaffinity", lambda _: set(range(8))):
+            yield found
+
+    def test_as_many_as_the_system_starts(self):
+        """Where it starts fewer threads than were asked for, these read all."""
+        text = b"1,a,2,3\n" * 99 + b"1,x\n" + b"1,a,2,3\n" * 99
+        start = threading.Thread.start
+        for most in 0, 1, 2:
+            started = []
+
+            def limited(thread):
+                if len(started) == most:
+                    raise RuntimeError("can't start new thread")
+                started.append(thread)
+                start(thread)
+
+            for given in {"on_error": "skip"}, {}:
+                with mock.patch("threading.Thread.start", limited):
+                    started.clear()
+                    found = told(text, COLUMNS, threads=4, **given)
+                    self.assertEqual(len(started), most)
+                    started.clear()
+                    tables = blocks_of(text, COLUMNS, threads=4, size=60, **given)
+                    self.assertEqual(len(started), most)
+                self.assertFalse([it for it in started if it.is_alive()])
+                self.assertEqual(found, told(text, COLUMNS, **given))
+                self.assertEqual(tables, blocks_of(text, COLUMNS, size=60, **given))
 
     def test_arrays_of_the_caller(self):
         columns = {"a": Column("u8", may_miss=True), "b": "i64"}

@@ -1,29 +1,35 @@
 -- A cell of digits that is read by its column's code.
-use Rattle.std.proofs.Common.{◌≡◌, ◌∙◌, ℕ, ◌+◌, ◌-◌, ◌*◌, ◌≤◌, List, true, false, length, length-take-le, Bool, take, drop, Option, Some, None, Ok, refl, ap, sym, subst, arith, inl, inr}
+use Rattle.std.proofs.Common.{◌≡◌, ◌≢◌, ◌∙◌, ℕ, suc, ◌+◌, ◌-◌, ◌*◌, ◌<◌, ◌≤◌, List, true, false, length, length-take-le, Bool, take, drop, get_or, Option, Some, None, Ok, refl, ap, sym, subst, arith, inl, inr}
 use Rattle.std.specs.Prelude.{is_some, option_map}
-use Rattle.std.proofs.lemmas.List.{drop-take, take-take}
+use Rattle.std.proofs.lemmas.Grind.{get_or_after_one}
+use Rattle.std.proofs.lemmas.List.{drop-take, get_or-take, take-take}
 use Rattle.lexical_parse_integer.specs.Value.{with_sign}
 use Rattle.lexical_util.specs.Format.{Format}
 use Rattle.lexical_util.specs.Validity.{fault}
 use Rattle.lexical_fields.specs.Fields.{FieldView}
 use Rattle.lexical_tables.specs.ByColumn.{IsUsable, fault_in, kind_of, put_read}
-use Rattle.lexical_tables.specs.Cells.{answer_as, ends_in_digit}
+use Rattle.lexical_tables.specs.Cells.{answer_as, ends_in_digit, quote_fault, unless}
 use Rattle.lexical_tables.specs.Codes.{AreCoded, AreQuotesRound, IsCodeIn, IsDecimal, IsNumberPut, IsNumeralUnder, coded_type, has_coded_bits, has_zero_rule}
+use Rattle.lexical_tables.specs.Quotes.{quote}
+use Rattle.lexical_tables.specs.declared.answers.CellFault.TheVariants.{MisplacedQuote}
 use Rattle.lexical_tables.specs.Readings.{FixedPoints, Integers, IsValid, Number, Reading, Texts}
 use Rattle.lexical_tables.specs.Targets.{TargetView}
 use Rattle.lexical_tables.specs.declared.dialect.Dialect.{Dialect}
-use Rattle.lexical_tables.proofs.PlainCells.{integers, plain_answer, quoted_answer, unread_answer}
+use Rattle.lexical_tables.proofs.PlainCells.{integers, plain_answer, quoted_answer}
+use Rattle.lexical_tables.proofs.QuotesUnread.{round_fine}
+use Rattle.lexical_tables.proofs.Unquoted.{unquoted_fault}
 
 -- What is answered of a cell, and what the target then is: no fault.
 pub record IsCellPut (d : Dialect) (row : ℕ) (cell : FieldView) (old new : Option TargetView) : Type 0 where
   pub fault : fault_in (answer_as d (option_map kind_of old) cell) ≡ None
   pub target : new ≡ option_map (put_read row (answer_as d (option_map kind_of old) cell)) old
 
--- a column that isn't read
+-- a column that isn't read, whose quotes are in place
 pub unread_put : (d : Dialect) (row : ℕ) (cell : FieldView) (target : Option TargetView) → is_some target ≡ false
-    → d.has_quotes ≡ false → IsCellPut d row cell target target
-unread_put d row cell None none unquoted = record { fault = ap fault_in (unread_answer d cell unquoted); target = refl }
-unread_put d row cell (Some target) none unquoted = absurd cc
+    → None ≡ quote_fault d.has_quotes false cell → IsCellPut d row cell target target
+unread_put d row cell None none fine =
+    record { fault = ap (λ found. fault_in (unless found (Ok None))) (sym fine); target = refl }
+unread_put d row cell (Some target) none fine = absurd cc
 
 module _ (start size : ℕ) (ahead : List ℕ) where
   abbrev cell : FieldView
@@ -91,6 +97,33 @@ module _ (start size : ℕ) (ahead : List ℕ) where
           ∙ answer_of format coded_as.0 (subst IsValid is usable.0) quoted
       answer_is (FixedPoints fixed type) is quoted = absurd (subst (AreCoded code) is as_kind.0)
       answer_is Texts is quoted = absurd (subst (AreCoded code) is as_kind.0)
+
+  -- its quotes are in place where none stands within those that are round it
+  pub held_fine : (held : List ℕ) (count : ℕ) → size + 17 ≤ length ahead
+      → AreQuotesRound true cell.text (length ahead - length held)
+      → held ≡ drop (length ahead - length held) ahead → count + 2 * (length ahead - length held) ≡ size
+      → ((k : ℕ) → k < count → get_or held k 0 ≢ quote) → None ≡ quote_fault true false cell
+  held_fine held count room round tail is none = by_round round
+    where
+      long : length cell.text ≡ size
+      long = length-take-le size ahead (omega (arith, room))
+
+      at_cell : (k : ℕ) → k < size → get_or cell.text k 0 ≡ get_or ahead k 0
+      at_cell k low = get_or-take size ahead k 0 low
+
+      by_round : AreQuotesRound true cell.text (length ahead - length held) → None ≡ quote_fault true false cell
+      by_round (inl bare) =
+          let held_is : held ≡ ahead = tail ∙ ap (λ n. drop n ahead) bare in
+          unquoted_fault true false cell
+          (λ k low same. none k (omega (arith, low, long, is, bare))
+          (ap (λ l. get_or l k 0) held_is ∙ sym (at_cell k (omega (arith, low, long))) ∙ same))
+      by_round (inr one) =
+          let held_is : held ≡ drop 1 ahead = tail ∙ ap (λ n. drop n ahead) one.0 in
+          sym (ap (option_map (λ place. MisplacedQuote (start + place))) (round_fine cell.text one.2 one.3 one.4
+          (λ k low same. let behind : 1 + k ≡ suc k = omega arith in
+          none k (omega (arith, low, long, is, one.0))
+          (ap (λ l. get_or l k 0) held_is ∙ get_or_after_one ahead k 0 ∙ ap (λ n. get_or ahead n 0) behind
+          ∙ sym (at_cell (suc k) (omega (arith, low, long))) ∙ same))))
 
   -- of what stands within its quotes
   pub found_put : (d : Dialect) (code row : ℕ) (old new : Option TargetView) (held : List ℕ) (count : ℕ)

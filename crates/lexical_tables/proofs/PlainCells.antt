@@ -25,11 +25,7 @@ use Rattle.lexical_tables.specs.Quotes.{quote}
 use Rattle.lexical_tables.specs.Readings.{Integers, Number}
 use Rattle.lexical_tables.specs.declared.answers.CellFault.TheVariants.{MisplacedQuote}
 use Rattle.lexical_tables.specs.declared.dialect.Dialect.{Dialect}
-use Rattle.lexical_tables.proofs.Unquoted.{begins_unquoted, no_quote_fault, unquoted_fault}
-
--- a cell that isn't read stands for nothing, where quotes have no meaning
-pub unread_answer : (d : Dialect) (cell : FieldView) → d.has_quotes ≡ false → answer_as d None cell ≡ Ok None
-unread_answer d cell no_quotes = ap (λ found. unless found (Ok None)) (sym (no_quote_fault d no_quotes cell))
+use Rattle.lexical_tables.proofs.Unquoted.{begins_unquoted, unquoted_fault}
 
 -- a numeral isn't the mark, where that doesn't end in a digit
 not_mark : (may_miss is_negative : Bool) (number : ℕ) (text mark : List ℕ) → IsNumeral is_negative number text

@@ -1,11 +1,12 @@
 -- Quotes that are in place in a cell that is read are so where it isn't.
-use Rattle.std.proofs.Common.{◌≡◌, ◌∙◌, ℕ, zero, suc, ◌+◌, ◌-◌, ◌<◌, ◌≤◌, ◌==◌, ◌&&◌, ◌||◌, ◌%◌, not, List, [], ◌∷◌, length, take, Bool, true, false, cond, count_by, Result, Option, Some, None, Ok, refl, ap, ap₂, sym, arith, inl, inr}
+use Rattle.std.proofs.Common.{◌≡◌, ◌≢◌, ◌∙◌, ℕ, zero, suc, ◌+◌, ◌-◌, ◌<◌, ◌≤◌, ◌==◌, ◌&&◌, ◌||◌, ◌%◌, not, List, [], ◌∷◌, length, take, get_or, Bool, true, false, cond, count_by, Result, Option, Some, None, Ok, refl, ap, ap₂, sym, arith, inl, inr}
 use Rattle.std.specs.Prelude.{nat_lt, option_map, slice_index}
 use Rattle.std.specs.List.{position, position_or_len, prefix_len, range_with_len}
 use Rattle.std.proofs.lemmas.Bool.{cases_lt, eqb-true, le-ltb, lt-ltb}
 use Rattle.std.proofs.lemmas.List.FromFn.{length-range_with_len}
-use Rattle.std.proofs.lemmas.List.Sums.{count_by-le-length, sum_by-append}
+use Rattle.std.proofs.lemmas.List.Sums.{count_by-le-length, position_or_len_is, sum_by-append}
 use Rattle.lexical_fields.specs.Fields.{FieldView}
+use Rattle.lexical_fields.proofs.FieldsInParts.{either}
 use Rattle.lexical_tables.specs.Readings.{Value, keeps_texts}
 use Rattle.lexical_tables.specs.Cells.{Kind, answer_as, begins_with_quote, content, fault_round_number, fault_round_text, first_of, first_quote, is_in_place, misplaced_quote, quote_fault, unless, value_at}
 use Rattle.lexical_tables.specs.Quotes.{has_odd_quotes, quote}
@@ -118,6 +119,37 @@ text_fine first rest is last =
 and_right : (a b : Bool) → (a && b) ≡ true → b ≡ true
 and_right true b e = e
 and_right false b e = cc
+
+-- quotes on both sides of a text, and none within, are in place
+pub round_fine : (text : List ℕ) → 2 ≤ length text → get_or text 0 0 ≡ quote
+    → get_or text (length text - 1) 0 ≡ quote → ((k : ℕ) → k + 2 < length text → get_or text (suc k) 0 ≢ quote)
+    → misplaced_quote false text ≡ None
+round_fine [] long first_is last_is none = absurd (omega (arith, long))
+round_fine (first ∷ rest) long first_is last_is none =
+    ap (λ t. cond t (fault_round_text (first ∷ rest)) (first_quote (first ∷ rest))) begins ∙ text_fine first rest same whole
+  where
+    same : (first == quote) ≡ true
+    same = ap (λ byte. byte == quote) first_is
+
+    begins : begins_with_quote (first ∷ rest) ≡ true
+    begins = ap₂ (λ a b. a && b) (lt-ltb 0 (suc (length rest)) (omega arith)) same
+
+    is_other : (k : ℕ) → k < length rest - 1 → (get_or rest k 0 == quote) ≡ false
+    is_other k low = elim (either (get_or rest k 0 == quote)) [
+      | inl is ↦ absurd (none k (omega (arith, low)) (eqb-true (get_or rest k 0) quote is))
+      | inr other ↦ other
+    ]
+
+    last_same : (get_or rest (length rest - 1) 0 == quote) ≡ true
+    last_same =
+        let at : suc (length rest) - 1 ≡ suc (length rest - 1) = omega (arith, long) in
+        ap (λ byte. byte == quote) (sym (ap (λ n. get_or (first ∷ rest) n 0) at) ∙ last_is)
+
+    whole : suc (quote_place rest) ≡ length rest
+    whole =
+        let place = position_or_len_is (λ byte. byte == quote) rest (length rest - 1) 0 (omega arith) is_other
+        (λ within. last_same) in
+        omega (arith, place, long)
 
 misplaced_unread : (text : List ℕ) → misplaced_quote true text ≡ None → misplaced_quote false text ≡ None
 misplaced_unread [] fine = fine

@@ -9,13 +9,8 @@ use Rattle.lexical_tables.specs.Cells.{begins_with_quote, content, fault_round_n
 use Rattle.lexical_tables.specs.Quotes.{quote}
 use Rattle.lexical_tables.specs.declared.answers.CellFault.{CellFault}
 use Rattle.lexical_tables.specs.declared.answers.CellFault.TheVariants.{MisplacedQuote}
-use Rattle.lexical_tables.specs.declared.dialect.Dialect.{Dialect}
 
--- without quotes none is out of place
-pub no_quote_fault : (d : Dialect) → d.has_quotes ≡ false → (cell : FieldView) → None ≡ quote_fault d.has_quotes false cell
-no_quote_fault d no_quotes cell = rw no_quotes (refl)
-
--- nor where a cell has none
+-- no quote is found where a cell has none
 no_quote_first : (text : List ℕ) → ((k : ℕ) → k < length text → get_or text k 0 ≢ quote) → first_quote text ≡ None
 no_quote_first text none =
     ap (λ n. cond (nat_lt n (length text)) (Some n) None)

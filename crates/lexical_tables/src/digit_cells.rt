@@ -4,11 +4,12 @@ ghost use Rattle.std.specs.Prelude.{◌≡◌, ◌+◌, ◌-◌, ◌*◌, ◌<�
 ghost use Rattle.lexical_util.specs.Format.{Format};
 ghost use Rattle.lexical_fields.specs.Numerals.{IsNumeral};
 ghost use Rattle.lexical_tables.specs.ByColumn.{IsUsable, fault_in, kind_of, put_read};
-ghost use Rattle.lexical_tables.specs.Cells.{answer_as};
+ghost use Rattle.lexical_tables.specs.Cells.{answer_as, quote_fault};
 ghost use Rattle.lexical_tables.specs.Codes.{AreQuotesRound, IsCodeIn, IsDecimal, IsNumberPut, IsNumeralUnder, IsReadAs, has_zero_rule};
 
 use crate::codes::{NOT_READ, U8, WITH_ZERO_RULE};
 use crate::dialect::Dialect;
+use crate::quotes::shows_no_quote;
 use crate::targets::TableColumn;
 use lexical_fields::{long_number_of_front, number_of_front};
 
@@ -33,6 +34,21 @@ fn within_quotes(ahead: &[u8], size: usize, has_quotes: bool) -> (&[u8], usize)
         return (ahead, size);
     }
     (&ahead[1..], size - 2)
+}
+
+// Whether it is seen at once that no quote is out of place in a cell that isn't read, the first bytes of a text, so many: quotes
+// have no meaning, or one look shows that none stands within those that are round it.
+#[inline(always)]
+fn shows_no_fault(ahead: &[u8], size: usize, has_quotes: bool) -> bool
+    requires room { size + 17 ≤ length ahead.now }
+    ensures { IsTrue result → (start : ℕ) → None ≡ quote_fault has_quotes false
+        (record { start = start; text = take size ahead.now }) }
+{
+    if !has_quotes {
+        return true;
+    }
+    let (held, count) = within_quotes(ahead, size, has_quotes);
+    shows_no_quote(held, count)
 }
 
 // Whether digits, so many bytes of a text with the minus in front, keep the rule on zeros, if a column's code has it.
@@ -104,7 +120,7 @@ pub(crate) fn read_coded<C: TableColumn, const HAS_QUOTES: bool>(
     ensures kept { result ≡ false → C.target target.new ≡ C.target target.old }
 {
     if code < U8 {
-        return code == NOT_READ && !HAS_QUOTES;
+        return code == NOT_READ && shows_no_fault(ahead, size, HAS_QUOTES);
     }
     let (held, count) = within_quotes(ahead, size, HAS_QUOTES);
     put_found(target, code, row, held, count, number_of_front(held, count))

@@ -9,7 +9,7 @@ pub(crate) mod looks;
 pub(crate) mod parities;
 
 use self::looks::look_at_16;
-use lexical_fields::{field_length, lowest_mark, next_marks, split_marked};
+use lexical_fields::{field_length, lowest_mark, marks_among_16, next_marks, split_marked};
 
 // How many bytes stand before the first separator outside quotes, or in the text where there is none. Where quotes have a
 // meaning, an empty row's end is its first byte, and no call is made for that.
@@ -106,6 +106,18 @@ fn has_none_below(marks: u64, place: usize) -> bool
     ensures { IsTrue result → (k : ℕ) → k < place → bit_at marks k ≡ 0 }
 {
     marks == 0 || lowest_mark(marks) >= place
+}
+
+// Whether one look at sixteen bytes shows that none of a text's first bytes, so many, is a quote.
+#[inline(always)]
+pub(crate) fn shows_no_quote(text: &[u8], size: usize) -> bool
+    requires room { 16 ≤ length text.now }
+    ensures { IsTrue result → (k : ℕ) → k < size → slice_index text.now k ≢ quote }
+{
+    if size > 16 {
+        return false;
+    }
+    has_none_below(marks_among_16(&text[..16], b'"'), size)
 }
 
 // How many bytes the first cell of what is left of a row has, and whether it was seen that none of them is a quote, where

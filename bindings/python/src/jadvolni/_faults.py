@@ -48,15 +48,20 @@ def at_fault(on_error: object, errors: Any, source: object = None) -> AtFault:
     if tell is not None and not callable(tell):
         kind = type(errors).__name__
         raise TypeError(f"errors has to be a list, a function or None, and not {kind}")
-    return AtFault(skips, tell, source if isinstance(source, str) else "")
+    return AtFault(skips, tell, _printable(source) if isinstance(source, str) else "")
+
+
+def _printable(name: str) -> str:
+    """A file's name as a message shows it, which may be any bytes."""
+    return "".join(it if it.isprintable() else _escaped(it) for it in name)
 
 
 class Part:
-    """A text as a part of a file: whether it is the last one, and how many bytes and lines stand
+    """A text as a part of a file, which ends where a row does: how many bytes and lines stand
     before it."""
 
-    def __init__(self, is_last: bool = True, start: int = 0, line: int = 0) -> None:
-        self.is_last, self.start, self.line = is_last, start, line
+    def __init__(self, start: int = 0, line: int = 0) -> None:
+        self.start, self.line = start, line
         self._counted = self._lines = 0
 
     def lines_before(self, text: Text, place: int) -> int:

@@ -54,14 +54,14 @@ class _Rest:
         return found
 
     def _part(self, text: bytes | memoryview) -> tuple[bytes | memoryview, Part]:
-        """Rows with what stands before them, that behind them more will stand."""
-        part = Part(False, self.start, self.line)
+        """Rows with what stands before them."""
+        part = Part(self.start, self.line)
         self.start, self.line = self.start + len(text), self.line + self.reader.lines_in(text)
         return text, part
 
     def last(self) -> Texts:
         """What is left behind the last block."""
-        return Texts([(bytes(self.bytes), Part(True, self.start, self.line))], 0)
+        return Texts([(bytes(self.bytes), Part(self.start, self.line))], 0)
 
     def ask_short(self) -> None:
         """Asks that the row isn't too long, and tells of the quote that may have made it so."""

@@ -9,6 +9,7 @@ from typing import TYPE_CHECKING, Iterator, Sequence
 
 from ._core import _row_cells, _row_ends
 from ._faults import Part
+from ._widths import header_cells, sizes_of
 
 if TYPE_CHECKING:
     from ._core import Text
@@ -45,18 +46,23 @@ def names_of(line: bytes, how: How) -> list[str]:
     line = line.removesuffix(b"\n")
     if how.has_returns or (how.allows_returns and is_ended):
         line = line.removesuffix(b"\r")
+    if how.widths is not None:
+        return [_name(cell, how) for cell in header_cells(line, sizes_of(how.widths))]
     separator = byte_of(b"," if how.separator is None else how.separator)
     # Quotes have a meaning if all of them close.
     has_quotes = bool(how.has_quotes) and line.count(b'"') % 2 == 0
     return [_name(cell, how) for cell in _row_cells(line + b"\n", separator[0], has_quotes)]
 
 
-def ask_header(how: How, header: bool) -> None:
-    """Asks that there may be a header."""
+def with_header(how: How, header: bool) -> How:
+    """How a table is written that may have a header. Widths are kept: its cells have them too."""
     if not isinstance(header, bool):
         raise TypeError(f"header has to be True or False, and not {type(header).__name__}")
-    if header and how.widths is not None:
-        raise ValueError("header has to be False where there are widths: they have no names")
+    if how.widths is not None and how.separator is not None:
+        raise ValueError("separator has to be None where there are widths")
+    if header and how.is_records:
+        raise ValueError("header has to be False where is_records is true: no line has the names")
+    return how._replace(widths=sizes_of(how.widths)) if header and how.widths is not None else how
 
 
 def _behind_empty_rows(blocks: Iterator[bytes], how: How) -> tuple[Iterator[bytes], Part]:
@@ -123,16 +129,24 @@ def _listed(names: Sequence[str]) -> str:
     return ", ".join(map(repr, names[:_LISTED])) + more
 
 
+def _hint(names: Sequence[str], missing: Sequence[str], how: How) -> str:
+    """Why a header may lack names."""
+    if names[0][:2] in ("\udcff\udcfe", "\udcfe\udcff"):
+        return "; the text may be UTF-16, and has to be UTF-8"
+    if not how.allows_blanks and {name.strip(" \t") for name in names}.issuperset(missing):
+        return "; allows_blanks may have to be True"
+    separator = byte_of(b"," if how.separator is None else how.separator)
+    others = [chr(it) for it in _SEPARATORS if chr(it) in names[0] and it != separator[0]]
+    return f"; separator may have to be {others[0]!r}" if others and len(names) == 1 else ""
+
+
 def ask_names(columns: Columns, names: list[str], how: How) -> None:
     """Asks that a header has each column once."""
     counts = Counter(names)
     missing = [name for name in columns if name not in counts]
     if missing:
-        separator = byte_of(b"," if how.separator is None else how.separator)
-        others = [chr(it) for it in _SEPARATORS if chr(it) in names[0] and it != separator[0]]
-        hint = f"; separator may have to be {others[0]!r}" if others and len(names) == 1 else ""
         raise ValueError(f"the header has no column {_listed(missing)}: it has {_listed(names)}"
-                         f"{hint}")
+                         f"{_hint(names, missing, how)}")
     for name in columns:
         if counts[name] > 1:
             places = " and ".join(str(k + 1) for k, it in enumerate(names) if it == name)

@@ -9,10 +9,11 @@ from typing import TYPE_CHECKING, Any, Iterable, Mapping, NamedTuple, Optional, 
 from ._arrays import new_array, numpy_or_none, zeros
 from ._core import _array_code, _parse_table, _row_count, _text_size
 from ._faults import AtFault, Fault, Part, error_of
-from ._format import Format, _integer
+from ._format import Format
 from ._header import ask_names
 from . import _texts
 from ._table import Sparse, Table
+from ._widths import ask_count, sizes_of
 
 if TYPE_CHECKING:
     from ._core import NumberType, ParseError, Text
@@ -60,18 +61,6 @@ def ask_type(name: str, value: object, kind: Any, wanted: str) -> None:
         raise TypeError(f"{name} has to be {wanted}, and not {type(value).__name__}")
 
 
-def _sizes(widths: Iterable[int], count: int) -> array[int]:
-    """The widths of so many columns."""
-    ask_type("widths", widths, Iterable, "a list or None")
-    sizes = [_integer("a width", it) for it in widths]
-    if len(sizes) != count or count == 0:
-        raise ValueError(f"widths have to be one for each of {count} columns, and not {len(sizes)}")
-    for size in sizes:
-        if not 0 <= size <= sys.maxsize:
-            raise ValueError(f"a width has to be from 0 to {sys.maxsize}, and not {size}")
-    return array("Q", sizes)
-
-
 def pair_of(values: Any) -> tuple[Any, Any]:
     """The numbers of a column, and its bits or None."""
     numbers, bits = values[:2] if isinstance(values, tuple) else (values, None)
@@ -106,9 +95,10 @@ class Reader:
             ask_names(columns, names, how)
         # The cells of a row, each with its name; a name that isn't read may come twice.
         self.cells = list(columns if names is None else names)
-        sizes = array("Q") if how.widths is None else _sizes(how.widths, len(self.cells))
-        if sizes and how.separator is not None:
-            raise ValueError("separator has to be None where there are widths")
+        sizes = array("Q")
+        if how.widths is not None:
+            sizes = sizes_of(how.widths)
+            ask_count(sizes, len(self.cells))
         if how.is_records and not sizes:
             raise ValueError("widths have to be there where is_records is true")
         separator = b"," if how.separator is None else how.separator
@@ -150,7 +140,6 @@ class Reader:
         arrays: dict[str, Any],
         at: int,
         rows: int,
-        is_last: bool = True,
         told: int = -1,
     ) -> tuple[int, int, int, tuple[tuple[Any, ...], ...], bool]:
         """Reads so many rows at most of a text, from a place on, into arrays from a row on.
@@ -165,14 +154,14 @@ class Reader:
                 for name, it in self.read.items()}
         columns = tuple(map(read.get, self.cells))
         if told <= 0:
-            found = _parse_table(text, place, sys.maxsize, is_last, self.how, columns, at, rows,
+            found = _parse_table(text, place, sys.maxsize, True, self.how, columns, at, rows,
                                  told)
             return *found, found[0] < rows
         size, window = _text_size(text), _WINDOW
         while True:
             to = min(place + window, size)
             count, length, bad, faults = _parse_table(
-                text, place, to, is_last and to == size, self.how, columns, at, rows, told)
+                text, place, to, to == size, self.how, columns, at, rows, told)
             if length or to == size:
                 return count, length, bad, faults, to == size and count < rows and bad < told
             window *= 2

@@ -78,7 +78,7 @@ class Rows:
         """Reads what there is room for: of how many bytes it is, and whether it is all."""
         told = self.reader.told - len(self.kept) if self.kept else self.reader.told
         count, length, bad, faults, is_end = self.reader.parse(
-            text, place, self.arrays, self.count, self.room - self.count, part.is_last, told)
+            text, place, self.arrays, self.count, self.room - self.count, told)
         if faults:
             self._tell([self.reader.fault(it, text, part, self.end) for it in faults])
         self.count, self.bad, self.size = self.count + count, self.bad + bad, self.size + length

@@ -14,7 +14,7 @@ from ._blocks import File, _block, _blocks, _one_or_more, keep_memory
 from ._core import _row_count, _text_size
 from ._faults import AtFault, Errors, OnError, Part, at_fault
 from ._files import Texts, read_texts, whole_rows
-from ._header import ask_header, read_header
+from ._header import read_header, with_header
 from ._reader import How, Reader, ask_type
 from ._rows import Rows
 from ._table import Table
@@ -93,7 +93,7 @@ def _parse(
 def _parse_text(text: Text, asked: _Asked) -> Table:
     """The rows of a text, with a header or none."""
     threads = _one_or_more("threads", asked.threads)
-    ask_header(asked.how, asked.header)
+    asked = asked._replace(how=with_header(asked.how, asked.header))
     if not asked.header:
         return _parse(asked.reader(), text, asked.out, threads, Part())
     _text_size(text)  # (so that what is no text is told as ever)
@@ -131,7 +131,8 @@ def parse_table(
 
     header: the first line has the names of the columns. Those of `columns` choose among them, in
     any order, and no other is read; ValueError tells of one that is missing or stands twice. A byte
-    order mark may stand before the header, and empty rows that are skipped.
+    order mark may stand before the header, and empty rows that are skipped. Widths are those of the
+    header's cells too; with allows_blanks, blanks round a name are none of it.
 
     has_returns: a return stands before each line feed. allows_returns: one may stand there, so that
     each row may end either way; any other is a byte of its cell. has_quotes: a cell may stand
@@ -179,7 +180,7 @@ def read_table(
     widths: Optional[Iterable[int]] = None,
     is_records: bool = False,
     out: Optional[Mapping[str, Any]] = None,
-    threads: int = 1,
+    threads: Optional[int] = None,
     *,
     size: int = 1 << 20,
     progress: Optional[Callable[[int], object]] = None,
@@ -193,22 +194,35 @@ def read_table(
 
     It is read by blocks of `size` bytes, and `progress` is called as by iter_table.
 
+    threads: how many read the blocks. None is one, but for a path without `mmap` and `out`: then
+    one for each core that this process may use, up to as many as the file has blocks. What is read,
+    and what is told of it, is the same for any number.
+
     mmap: a path is mapped to memory, which spares a copy of the file. Only take it where no other
     program may write to the file: one that is cut short meanwhile ends this process by a signal.
     """
     how = How(separator, has_returns, has_quotes, allows_blanks, skips_empty_rows, missing, widths,
               is_records, allows_returns)
     at = at_fault(on_error, errors, _name_of(file))
-    asked = _Asked(columns, how, at, header, threads, out, size, progress)
+    asked = _Asked(columns, how, at, header, 1 if threads is None else threads, out, size, progress)
     if not isinstance(file, (str, os.PathLike)):
         if mmap:
             raise TypeError("file has to be a path where mmap is true")
         return _read_opened(file, asked)
     with open(file, "rb") as opened:
-        if not mmap:
-            return _read_opened(opened, asked)
-        with _mapped(opened) as text:
-            return _parse_text(text, asked)
+        if mmap:
+            with _mapped(opened) as text:
+                return _parse_text(text, asked)
+        if threads is None and out is None:
+            asked = asked._replace(threads=_threads_for(opened, _one_or_more("size", size)))
+        return _read_opened(opened, asked)
+
+
+def _threads_for(file: BinaryIO, size: int) -> int:
+    """How many threads read a file by blocks of a size: one for each core that this process may
+    use, up to as many as the file has blocks. One reads a file of unknown size, as a pipe, and so
+    tells bad rows as they come."""
+    return max(min(len(os.sched_getaffinity(0)), _size_left(file) // size), 1)
 
 
 def _name_of(file: Any) -> Any:
@@ -238,7 +252,7 @@ def _opened(
 ) -> tuple[Reader, Iterator[Texts], int]:
     """A file as it is read: how, by blocks of a size with rows of so many bytes at most, and how
     many bytes its header has. One thread tells the progress here, and more of them elsewhere."""
-    ask_header(asked.how, asked.header)
+    asked = asked._replace(how=with_header(asked.how, asked.header))
     blocks = _blocks(file, size, asked.progress if threads == 1 else None)
     if not asked.header:
         reader = asked.reader()

@@ -3,7 +3,7 @@
 from __future__ import annotations
 
 from collections import deque
-from concurrent.futures import Future, ThreadPoolExecutor
+from concurrent.futures import Future
 from contextlib import ExitStack, suppress
 from itertools import accumulate
 from typing import TYPE_CHECKING, Any, Iterable, Iterator, NoReturn
@@ -11,6 +11,7 @@ from typing import TYPE_CHECKING, Any, Iterable, Iterator, NoReturn
 from ._core import _move_bits, _row_count, _row_stops
 from ._faults import Fault, Part
 from ._files import Texts, read_texts
+from ._pool import Pool
 from ._reader import Reader, pair_of, with_pair
 from ._rows import Rows
 from ._table import Table
@@ -74,12 +75,12 @@ def parse_in_threads(
     bad ones were skipped."""
     reader.parse(text, 0, arrays, 0, 0)  # (so that wrong arguments are told as ever)
     # The pool comes last, so that its threads have ended when the memory that they use is let go.
-    with ExitStack() as held, ThreadPoolExecutor(threads) as pool:
+    with ExitStack() as held, Pool(threads) as pool:
         whole = held.enter_context(memoryview(bytes_of(text) if isinstance(text, str) else text))
         parts = min(threads, len(whole))
         stops = _row_stops(whole, parts, reader.has_quotes, reader.record)
         texts = [held.enter_context(whole[start:stop]) for start, stop in zip([0, *stops], stops)]
-        lines = list(pool.map(lambda it: _row_count(it, reader.record), texts))
+        lines = pool.map(lambda it: _row_count(it, reader.record), texts)
         rooms = [_room_behind(reader, arrays, row, rows, held)
                  for row, rows in zip(accumulate(lines, initial=0), lines)]
 
@@ -90,7 +91,7 @@ def parse_in_threads(
                 raise_changed()
             return rows
 
-        found = list(pool.map(rows_of, range(len(texts))))
+        found = pool.map(rows_of, range(len(texts)))
         _tell_parts(reader, texts, found, before)
     counts = [rows.count for rows in found]
     for name, values in arrays.items():
@@ -107,7 +108,7 @@ def _tell_parts(
         if rows.fault:
             raise reader.error(rows.fault, row, start, line)
         faults = [fault.behind(0, start, line) for fault in rows.kept or ()]
-        tell_kept(reader, Texts([(text, Part(True, start, line))], 0), rows.bad, faults, row)
+        tell_kept(reader, Texts([(text, Part(start, line))], 0), rows.bad, faults, row)
         row, start, line = row + rows.end, start + len(text), line + reader.lines_in(text)
 
 
@@ -142,7 +143,7 @@ def rows_in_threads(
     """
     row, left, failed = 0, iter(blocks), None
     waiting: deque[tuple[Texts, Future[tuple[list[Rows], list[Fault]]]]] = deque()
-    with ThreadPoolExecutor(threads) as pool:
+    with Pool(threads) as pool:
         while True:
             try:
                 texts = next(left, None) if failed is None else None

@@ -22,6 +22,7 @@
 #[doc = include_str!("../../README.md")]
 struct Readme;
 
+mod amount;
 mod bad_rows;
 #[cfg(feature = "std")]
 mod block;
@@ -53,6 +54,7 @@ mod table_reader;
 mod typed_literal;
 mod within;
 
+pub use amount::Amount;
 pub use bad_rows::{parse_table_part_skipping, parse_table_skipping, row_place, BadRow, Skipping};
 pub use cell_text::CellText;
 pub use column::{
@@ -78,7 +80,7 @@ pub use table_read_error::TableReadError;
 #[cfg(feature = "std")]
 pub use table_reader::TableReader;
 pub use typed_literal::{parse_typed_literal, IntegerKind, Suffix, TypedLiteral};
-pub use within::{parse_within, parse_within_with_format, WithinError};
+pub use within::{parse_fixed_within, parse_within, parse_within_with_format, WithinError};
 
 use jadvolni_sys as sys;
 

@@ -1,6 +1,6 @@
 //! Numbers within bounds, with one fault that says the bounds and what was given.
 
-use crate::{integer, Error, Excerpt, Format, Integer};
+use crate::{integer, Amount, Error, Excerpt, Fixed, Format, Integer};
 use core::fmt::{self, Debug, Display, Formatter};
 use core::ops::RangeInclusive;
 
@@ -66,10 +66,47 @@ pub fn parse_within_with_format<T: Integer + PartialOrd>(
     format: &Format,
 ) -> Result<T, WithinError<T>> {
     let text = text.as_ref();
-    let fault = match integer::complete_with(text, format) {
+    let read = integer::complete_with(text, format);
+    number_within(text, bounds, read, || integer::complete_with(text, format))
+}
+
+/// The fixed-point number that the whole text is, as a `T` within bounds, all in units of the last place.
+///
+/// ```
+/// use jadvolni::{parse_fixed_within, Error, Fixed, WithinError};
+/// let fee = |text| parse_fixed_within(text, 0..=9999u16, &Fixed::of_places(2));
+/// assert_eq!(fee("12.50"), Ok(1250));
+/// assert_eq!(fee("-1.00").unwrap_err().to_string(), "-1.00 is not from 0.00 to 99.99");
+/// assert_eq!(fee("12.5x"), Err(WithinError::Invalid(Error::InvalidDigit(4))));
+/// ```
+pub fn parse_fixed_within<T: Integer + PartialOrd>(
+    text: impl AsRef<[u8]>,
+    bounds: RangeInclusive<T>,
+    fixed: &Fixed,
+) -> Result<T, WithinError<Amount<T>>> {
+    let text = text.as_ref();
+    let read = integer::fixed(text, fixed);
+    number_within(text, bounds, read, || integer::fixed(text, fixed)).map_err(|error| match error {
+        WithinError::Invalid(error) => WithinError::Invalid(error),
+        WithinError::OutOfBounds { given, min, max } => WithinError::OutOfBounds {
+            given,
+            min: Amount::of(min, fixed),
+            max: Amount::of(max, fixed),
+        },
+    })
+}
+
+/// A number that was read of a text, if it is within bounds. `widest` reads it as of the widest type with a sign.
+fn number_within<T: Integer + PartialOrd>(
+    text: &[u8],
+    bounds: RangeInclusive<T>,
+    read: Result<T, Error>,
+    widest: impl FnOnce() -> Result<i128, Error>,
+) -> Result<T, WithinError<T>> {
+    let fault = match read {
         Ok(number) if bounds.contains(&number) => return Ok(number),
         Ok(_) => None,
-        Err(error) => fault_beside_bounds(text, format, error),
+        Err(error) => fault_beside_bounds(error, widest()),
     };
     let (min, max) = bounds.into_inner();
     Err(match fault {
@@ -81,9 +118,9 @@ pub fn parse_within_with_format<T: Integer + PartialOrd>(
 /// What else is wrong with a text than that a type lacks its number: `None` where that is all.
 ///
 /// The widest type with a sign tells, in which `-5` and `70000` are numbers.
-fn fault_beside_bounds(text: &[u8], format: &Format, error: Error) -> Option<Error> {
+fn fault_beside_bounds(error: Error, widest: Result<i128, Error>) -> Option<Error> {
     let is_beyond = |error| matches!(error, Error::Overflow(_) | Error::Underflow(_));
-    match integer::complete_with::<i128>(text, format) {
+    match widest {
         Ok(number) => (number >= 0 && !is_beyond(error)).then_some(error),
         Err(other) if is_beyond(other) => None,
         Err(other) => Some(if is_beyond(error) { other } else { error }),

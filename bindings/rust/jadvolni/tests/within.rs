@@ -1,6 +1,7 @@
 //! Numbers within bounds, beside the same parse without.
 
-use jadvolni::{parse, parse_within, parse_within_with_format, Error, Format, WithinError};
+use jadvolni::{parse, parse_fixed, parse_fixed_within, parse_within, parse_within_with_format};
+use jadvolni::{Error, Fixed, Format, WithinError};
 
 const TEXTS: [&str; 24] = [
     "0",
@@ -90,4 +91,43 @@ fn messages() {
     assert_eq!(told("6", &invalid), WithinError::Invalid(Error::InvalidMantissaRadix));
     let error: Box<dyn std::error::Error + Send + Sync> = told("6", &separated).into();
     assert_eq!(error.to_string(), "6 is not from 1 to 5");
+}
+
+#[test]
+fn amounts() {
+    const CENTS: Fixed = Fixed::of_places(2);
+    const EUROS: Fixed = CENTS.point(b',').group_separator(Some(b'.'));
+    macro_rules! told {
+        ($text:expr, $bounds:expr, $fixed:expr) => {
+            parse_fixed_within($text, $bounds, &$fixed).unwrap_err().to_string()
+        };
+    }
+    assert_eq!(parse_fixed_within("12.50", 0..=9999i64, &CENTS), Ok(1250));
+    assert_eq!(told!("-1.00", 0..=9999i64, CENTS), "-1.00 is not from 0.00 to 99.99");
+    assert_eq!(told!("-1.00", 5..=9999u16, CENTS), "-1.00 is not from 0.05 to 99.99");
+    assert_eq!(told!("1234.56", u8::MIN..=u8::MAX, CENTS), "1234.56 is not from 0.00 to 2.55");
+    assert_eq!(told!("-1.29", i8::MIN..=i8::MAX, CENTS), "-1.29 is not from -1.28 to 1.27");
+    assert_eq!(told!("1.234,50", -5..=9999i32, EUROS), "1.234,50 is not from -0,05 to 99,99");
+    assert_eq!(told!("7", 0..=5u8, Fixed::of_places(0)), "7 is not from 0 to 5");
+    assert_eq!(
+        told!(b"9\xB799", 0..=5u8, CENTS.point(0xB7)),
+        r"9\xb799 is not from 0\xb700 to 0\xb705"
+    );
+    assert_eq!(told!("1.00", 0..=5u8, CENTS.point(0)), "1.00 is not from 0.00 to 0.05");
+    let (many, end) = (Fixed::of_places(38), "70141183460469231731687303715884105728");
+    assert_eq!(
+        told!(format!("9.{end}"), i128::MIN..=0, many),
+        format!("9.{end} is not from -1.{end} to 0.{}", "0".repeat(38))
+    );
+    let invalid = |text, fixed: Fixed| match parse_fixed_within(text, 0..=5u8, &fixed) {
+        Err(WithinError::Invalid(error)) => error,
+        other => panic!("{text}: {other:?}"),
+    };
+    assert_eq!(invalid("0.0x", CENTS), Error::InvalidDigit(3));
+    assert_eq!(invalid("99999.9", CENTS), Error::Empty(7));
+    assert_eq!(invalid("-0.00", CENTS), parse_fixed::<u8>("-0.00", &CENTS).unwrap_err());
+    assert_eq!(invalid("1", Fixed::of_places(255)), Error::InvalidPlaces);
+    let error: Box<dyn std::error::Error + Send + Sync> =
+        parse_fixed_within("6.00", 1..=5u8, &CENTS).unwrap_err().into();
+    assert_eq!(format!("{error:>9}"), "6.00 is not from 0.01 to 0.05");
 }

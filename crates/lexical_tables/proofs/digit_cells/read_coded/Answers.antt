@@ -1,8 +1,18 @@
+use Rattle.lexical_fields.specs.Fields.{FieldView}
+use Rattle.lexical_tables.specs.Cells.{quote_fault}
 use Rattle.lexical_tables.specs.Codes.{AreQuotesRound}
-use Rattle.lexical_tables.proofs.CodedCells.{found_put}
+use Rattle.lexical_tables.proofs.CodedCells.{found_put, unread_put}
 use Rattle.lexical_tables.proofs.digit_cells.read_coded.Goals as goal
-use Rattle.std.proofs.Common.{◌-◌, ◌≤◌, arith, length, subst, sym, take}
+use Rattle.std.proofs.Common.{◌≡◌, ◌-◌, ◌≤◌, None, arith, false, length, subst, sym, take}
 use Rattle.std.proofs.lemmas.Bool.Decides.{nat_tests}
+
+pub returns-then-code-eq-NOT_READ-clause-fault : goal.returns-then-code-eq-NOT_READ-clause-fault
+returns-then-code-eq-NOT_READ-clause-fault g c = λ seen start.
+    let cell : FieldView = record { start = start; text = take c.args.size c.args.ahead.now } in
+    let unread : c.args.code ≡ 1 = grind (arith, nat_tests) in
+    (unread_put c.args.dialect.now c.args.row cell (g.C.TableColumn.target c.args.target.now)
+    (c.requires.code.column.unread unread)
+    (subst (λ q. None ≡ quote_fault q false cell) (sym c.requires.quotes) (c.shows_no_fault.ensures seen start))).fault
 
 pub returns-clause-fault : goal.returns-clause-fault
 returns-clause-fault g c = λ did start.

@@ -1,0 +1,35 @@
+"""The widths of cells that stand in a row with nothing between them."""
+
+from __future__ import annotations
+
+import sys
+from array import array
+from itertools import accumulate, pairwise
+from typing import Iterable, Sequence
+
+from ._format import _integer
+
+
+def sizes_of(widths: Iterable[int]) -> array[int]:
+    """Widths, each of which may be one."""
+    if not isinstance(widths, Iterable):
+        raise TypeError(f"widths has to be a list or None, and not {type(widths).__name__}")
+    sizes = [_integer("a width", it) for it in widths]
+    for size in sizes:
+        if not 0 <= size <= sys.maxsize:
+            raise ValueError(f"a width has to be from 0 to {sys.maxsize}, and not {size}")
+    return array("Q", sizes)
+
+
+def ask_count(sizes: Sequence[int], count: int) -> None:
+    """Asks that there are widths for so many columns."""
+    if len(sizes) != count or count == 0:
+        raise ValueError(f"widths have to be one for each of {count} columns, and not {len(sizes)}")
+
+
+def header_cells(line: bytes, sizes: Sequence[int]) -> list[bytes]:
+    """The cells of a header, which has to have as many bytes as they."""
+    stops = list(accumulate(sizes, initial=0))
+    if len(line) != stops[-1]:
+        raise ValueError(f"the header has {len(line)} bytes, and the widths have {stops[-1]}")
+    return [line[start:stop] for start, stop in pairwise(stops)]
