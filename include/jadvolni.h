@@ -1,8 +1,8 @@
 /*
  * jadvolni.h - integers from bytes, proved. It needs C99 or C++11.
  *
- * A call reads one integer from the `len` bytes at `text`. They may be any bytes, and no NUL has to
- * follow them:
+ * A call reads one integer from the `len` bytes at `text`. The bytes may have any values, and need not
+ * end with a NUL:
  *
  *     uint16_t port;
  *     jadvolni_result r = jadvolni_parse_u16(text, len, &port);
@@ -13,61 +13,62 @@
  * isize has six, shown here for u64:
  *
  *     jadvolni_parse_u64(text, len, &value)          the whole text
- *     jadvolni_parse_u64_front(text, len, &value)    the number in front of a text
- *     jadvolni_parse_u64_partial(text, len, &value)  the same, where no digit has to be there
+ *     jadvolni_parse_u64_front(text, len, &value)    the number at the beginning of the text
+ *     jadvolni_parse_u64_partial(text, len, &value)  the same, but digits may be missing
  *
- * and each of these with `_with_format` behind its name and `&format` before `&value`. From C11 on
+ * and each of these with `_with_format` after its name and `&format` before `&value`. From C11 on
  * jadvolni_parse(text, len, &value) is the first of them for the type of `value`.
  *
- * Without a format they read what JADVOLNI_FORMAT_STANDARD says: decimal digits, after a "+" or
- * nothing, or after a "-" where the type is signed. `_front` stops at the first byte that doesn't
- * belong to the number: "12, 13" gives 12, and the place 2. Where it has read no digit, it answers
- * JADVOLNI_EMPTY at the place where it stopped: 0 in "x", and 1 in "+a".
+ * Without a format they use JADVOLNI_FORMAT_STANDARD: decimal digits, with an optional "+" before
+ * them, or, if the type is signed, "-". `_front` stops at the first byte that doesn't belong to the
+ * number: "12, 13" gives 12, and the place 2. If it has read no digit, it returns JADVOLNI_EMPTY at
+ * the place where it stopped: 0 in "x", and 1 in "+a".
  *
- * WHERE MORE BYTES MAY COME, as from a stream, an answer of `_front` at place `len` isn't final: "12"
- * may go on as "123". Ask again with more. One at an earlier place stays, if the format has no separator.
+ * IF MORE BYTES MAY COME, as from a stream, a result of `_front` at place `len` isn't final: "12" may
+ * continue as "123". Call again with more bytes. A result at an earlier place is final if the format
+ * has no separator.
  *
- * DON'T TAKE `_partial` WHERE A NUMBER HAS TO BE THERE: a front of no digits before other bytes is
- * mostly 0 to it, and no fault. Under the standard format "x" is 0 at place 0, and "+a" 0 at place 1.
+ * DON'T USE `_partial` IF YOU NEED A NUMBER: if other bytes stand where digits should, it usually
+ * returns JADVOLNI_OK and 0. Under the standard format "x" is 0 at place 0, and "+a" 0 at place 1.
  *
  * Eight of the types, u8 to u64 and i8 to i64, have a call that reads many numbers at once, described
  * at its declaration below:
  *
  *     jadvolni_parse_u64_column(text, len, separator, &format, values, capacity, &count)
  *
- * jadvolni_parse_literal reads a literal with its suffix, as "0xFFull" or "1_000i64", and
- * jadvolni_parse_typed_literal judges it as the type that its suffix names. And amounts of money, as
- * "-1.234,50", are read by two calls of each type:
+ * jadvolni_parse_literal reads a literal with its suffix, such as "0xFFull" or "1_000i64", and
+ * jadvolni_parse_typed_literal checks it against the type that its suffix names. Each type also has
+ * two calls for amounts of money, such as "-1.234,50":
  *
  *     jadvolni_parse_i64_fixed(text, len, &fixed, &value)
  *     jadvolni_parse_i64_fixed_front(text, len, &fixed, &value)
  *
- * WHAT A CALL ANSWERS
+ * WHAT A CALL RETURNS
  *
  *     r.status  JADVOLNI_OK, or what is wrong with the text or with the format.
- *     r.place   At JADVOLNI_OK how many bytes were read. At a fault of the text the place of the
- *               offending byte, where the first byte of the text has place 0; it may be `len`,
- *               where something is missing at the end. At a fault of the format 0.
- *     *value    The number at JADVOLNI_OK. At every other status it is as it was before the call.
+ *     r.place   A byte offset in the text, from 0. At JADVOLNI_OK it is the number of bytes read. At
+ *               a fault of the text it is the place of the wrong byte, or `len` if something is
+ *               missing at the end. At a fault of the format it is 0.
+ *     *value    The number at JADVOLNI_OK. At any other status it is unchanged.
  *
- * WHAT THE CALLER HAS TO KEEP
+ * WHAT THE CALLER MUST ENSURE
  *
- *     `text` points to `len` bytes that may be read. It may be NULL where `len` is 0, and such a
- *     text is JADVOLNI_EMPTY under the standard format.
+ *     `text` points to `len` readable bytes. It may be NULL if `len` is 0; such a text is
+ *     JADVOLNI_EMPTY under the standard format.
  *     `len` is at most PTRDIFF_MAX.
  *     `value` and `format` are not NULL.
- *     `*value` lies neither in the text nor in the format.
- *     No other thread writes to the text or the format while the call reads them.
+ *     `*value` overlaps neither the text nor the format.
+ *     No other thread writes to the text or the format during the call.
  *
- * gcc and clang warn of a NULL, of a `len` past the array that the text is, and of a result that isn't
- * used, where they can see it.
+ * Where gcc and clang can see it, they warn of a NULL, of a `len` greater than the array at `text`,
+ * and of an unused result.
  *
- * WHAT NO CALL DOES. None allocates memory, keeps state from one call to the next, sets errno,
- * reads a locale, skips spaces, or calls any other function. So calls may be made from any number
- * of threads at once, and from signal handlers.
+ * WHAT NO CALL DOES. No call allocates memory, keeps state between calls, sets errno, reads a locale,
+ * skips spaces, or calls any other function. So any number of threads, and signal handlers, may make
+ * calls at the same time.
  *
- * That each call returns, reads nothing outside the text and the format, and answers exactly what
- * the grammar says, is proved for every text and every format. docs/GRAMMAR.md has the grammar in
+ * It is proved, for every text and every format, that each call returns, reads nothing outside the
+ * text and the format, and answers exactly what the grammar says. docs/GRAMMAR.md has the grammar in
  * words, and docs/PROOFS.md what is proved, and where proof ends.
  */
 #ifndef JADVOLNI_H
@@ -96,32 +97,32 @@ extern "C" {
 #define JADVOLNI_VERSION_PATCH 0
 #define JADVOLNI_VERSION_STRING "0.1.0"
 
-/* The version as one number: 10000 * major + 100 * minor + patch. */
+/* The version as a number: 10000 * major + 100 * minor + patch. */
 #define JADVOLNI_VERSION 100
 
-/* The version of the library that the program was linked with, as such a number. */
+/* The version of the library that the program is linked with, as such a number. */
 uint32_t jadvolni_version(void);
 
-/* ---- what a call answers ---- */
+/* ---- what a call returns ---- */
 
 typedef enum jadvolni_status {
     /* The number was read. */
     JADVOLNI_OK = 0,
 
-    /* The number is greater than the type's greatest. The place is that of the first digit with
-     * which it leaves the type, whatever follows: 2 in "2566" as u8. */
+    /* The number is greater than the type's maximum. The place is that of the first digit at which the
+     * value, read digit by digit, leaves the type, whatever follows: 2 in "2566" as u8. */
     JADVOLNI_OVERFLOW = 1,
 
-    /* The number is less than the type's least. The place is that of the first digit with which it
-     * leaves the type, whatever follows: 3 in "-1290" as i8. */
+    /* The number is less than the type's minimum. The place is that of the first digit at which the
+     * value leaves the type, whatever follows: 3 in "-1290" as i8. */
     JADVOLNI_UNDERFLOW = 2,
 
-    /* The whole text was asked for, and it goes on where the number has ended. The place is where
-     * that is: 2 in "12x", and 0 in "x". */
+    /* The call reads the whole text, and the text continues after the number. The place is that of the
+     * first byte that isn't part of the number: 2 in "12x", and 0 in "x". */
     JADVOLNI_INVALID_DIGIT = 3,
 
-    /* A digit is required and there is none, or the text ends with its prefix. The place is where
-     * it is missing: 0 in "", 1 in "+", and 2 in "0x" with the prefix 'x'. */
+    /* A digit is required and there is none, or the text ends after its prefix. The place is where
+     * the digit is missing: 0 in "", 1 in "+", and 2 in "0x" with the prefix 'x'. */
     JADVOLNI_EMPTY = 4,
 
     /* The format requires a sign, and the text doesn't begin with one. The place is 0. */
@@ -130,11 +131,11 @@ typedef enum jadvolni_status {
     /* The text begins with "+", which the format forbids. The place is 0. */
     JADVOLNI_INVALID_POSITIVE_SIGN = 6,
 
-    /* A zero comes before another digit, which the format forbids. The place is that of the
-     * first zero: 1 in "-01". */
+    /* The number has a leading zero, which the format forbids. The place is that of the first zero:
+     * 1 in "-01". */
     JADVOLNI_INVALID_LEADING_ZEROS = 7,
 
-    /* The format's radix isn't from 2 to 36. For this and all others below the place is 0. */
+    /* The format's radix isn't from 2 to 36. For this and the next five the place is 0. */
     JADVOLNI_INVALID_MANTISSA_RADIX = 8,
 
     /* The format's separator isn't ASCII, or it is '+', '-' or a digit of the radix. */
@@ -146,59 +147,60 @@ typedef enum jadvolni_status {
     /* The format's suffix isn't ASCII, or it is '+', '-' or a digit of the radix. */
     JADVOLNI_INVALID_BASE_SUFFIX = 11,
 
-    /* Two of the format's separator, prefix and suffix are one byte, or one letter in two cases. */
+    /* Two of the format's separator, prefix and suffix are the same byte, or a letter in two cases. */
     JADVOLNI_INVALID_PUNCTUATION = 12,
 
-    /* The format asks for literal prefixes or octal zeros, and its radix isn't 10; or it asks for
-     * literal prefixes, and has a prefix of its own, or its separator or suffix could be taken for a
-     * part of "0x", "0o", "0b" or of their digits. */
+    /* The format has literal prefixes or octal zeros, and its radix isn't 10; or it has literal
+     * prefixes, and also a prefix of its own, or a separator or suffix that is 'x', 'o' or a
+     * hexadecimal digit, in either case. */
     JADVOLNI_INVALID_LITERAL_PREFIXES = 13,
 
     /* A row of a table has fewer cells than the table has columns. The place is where the row ends. */
     JADVOLNI_TOO_FEW_CELLS = 14,
 
-    /* A row of a table has more cells. The place is where the first one too many starts. */
+    /* A row of a table has more cells than the table has columns. The place is where the first one too
+     * many starts. */
     JADVOLNI_TOO_MANY_CELLS = 15,
 
-    /* The line feed at the place has no carriage return before it, and the table has returns. */
+    /* The table has returns, and the line feed at the place has no carriage return before it. */
     JADVOLNI_MISSING_RETURN = 16,
 
-    /* A reserved byte of the table isn't 0, it has widths, and not one for each column, or its rows are
-     * records, and it has none; or the array or the bits of a column have less room than rows are
-     * asked for, or it has a format and no room, and then that column is told. The place is 0.
-     * jadvolni_table_text says which it is. */
+    /* The table is invalid: a reserved byte isn't 0, the number of widths is neither 0 nor that of the
+     * columns, or its rows are records and it has no widths. Or the column that the result names is:
+     * its array or its bits have room for fewer rows than `capacity`, or it has a format and no array
+     * with room. The place is 0. jadvolni_table_text says which of these it is. */
     JADVOLNI_INVALID_TABLE = 17,
 
-    /* A quote in a cell is neither its first and last byte nor doubled, or there is an odd number of
-     * them, or one stands within a number. The place is that of the quote. */
+    /* A quote in a cell neither encloses it nor is doubled within quotes that do, or it is never closed,
+     * or it stands within a number. The place is that of the quote. */
     JADVOLNI_MISPLACED_QUOTE = 18,
 
-    /* The integer part of fixed-point numbers has a radix other than 10. For this and the next three the
+    /* The radix of the integer part of fixed-point numbers isn't 10. For this and the next three the
      * place is 0. */
     JADVOLNI_INVALID_FIXED_RADIX = 19,
 
     /* The integer part has a prefix, a suffix, literal prefixes or octal zeros. */
     JADVOLNI_INVALID_FIXED_AFFIX = 20,
 
-    /* The point of fixed-point numbers is a digit, '+', '-', or the separator of the integer part. */
+    /* The decimal point is a digit, '+', '-', or the separator of the integer part. */
     JADVOLNI_INVALID_POINT = 21,
 
-    /* Fixed-point numbers have more than 38 places. */
+    /* Fixed-point numbers have more than 38 decimal places. */
     JADVOLNI_INVALID_PLACES = 22,
 
-    /* The suffix of a literal is in no entry of the table. The place is where the suffix begins: 2 in
-     * "12abc", and in "12" where no entry has the empty suffix. */
+    /* No entry of the table has the literal's suffix. The place is where the suffix begins: 2 in
+     * "12abc", and in "12" if no entry has the empty suffix. */
     JADVOLNI_UNKNOWN_SUFFIX = 23,
 
     /* An entry of a table of suffixes names no type, or its reserved bytes aren't 0. The place is 0. */
     JADVOLNI_INVALID_SUFFIX_TABLE = 24,
 
-    /* A reserved byte or bit of the format isn't 0: it was written for a later version of the
-     * library, or it was never set. It comes before the rules of formats. */
+    /* A reserved byte or bit of the format isn't 0: the format was written for a later version of the
+     * library, or never initialized. This is checked before the rules of formats. The place is 0. */
     JADVOLNI_UNKNOWN_FIELD = 64
 } jadvolni_status;
 
-/* What a call answers. It is handed back by value, in two registers. */
+/* What a call returns, by value, in two registers. */
 typedef struct jadvolni_result {
     uint32_t status; /* a jadvolni_status */
     size_t place;
@@ -206,12 +208,12 @@ typedef struct jadvolni_result {
 
 /* ---- what compilers check ---- */
 
-/* What gcc and clang say of a call, before it runs: that its result isn't used, that a pointer is NULL
- * which may not be, and that less is there than the call is told. The text and its length come first. */
+/* What gcc and clang warn of at compile time: an unused result, a NULL where none is allowed, and an
+ * array shorter than the call is told. The text and its length come first in each call. */
 #ifdef __has_attribute
 #if __has_attribute(nonnull) && __has_attribute(warn_unused_result)
 #define JADVOLNI_CHECKED_(...) __attribute__((warn_unused_result, nonnull(__VA_ARGS__)))
-#define JADVOLNI_PURE_ __attribute__((warn_unused_result, pure)) /* for the same bytes the same answer */
+#define JADVOLNI_PURE_ __attribute__((warn_unused_result, pure)) /* the same bytes, the same answer */
 #endif
 #if __has_attribute(access)
 #define JADVOLNI_READS_(...) __attribute__((access(read_only, __VA_ARGS__)))
@@ -238,46 +240,45 @@ typedef struct jadvolni_result {
 /* ---- formats ---- */
 
 /*
- * What a text may look like. Begin with jadvolni_format_of_radix, and change what differs:
+ * Which texts are numbers. Begin with jadvolni_format_of_radix, and change what differs:
  *
  *     jadvolni_format hexadecimal = jadvolni_format_of_radix(16);
  *     hexadecimal.base_prefix = 'x';
  *
- * DON'T BEGIN WITH {0}: that takes away the digit that a number requires, and then an empty text, or
- * an empty line of a column, is 0 and no fault.
+ * DON'T BEGIN WITH {0}: then no digit is required, and an empty text, or an empty line of a column, is
+ * 0 and no fault.
  *
- * A flag is set by every byte but 0. A separator, prefix or suffix of 0 is none; to have the byte 0
- * itself, set its bit in `nul_is_punctuation`. A format is plain bytes, and nothing has to free it.
- * Any bytes may be in one: each call refuses a format that breaks a rule, whatever the text is, and
- * jadvolni_format_error tells beforehand.
+ * A flag is set by any byte but 0. A separator, prefix or suffix of 0 means none; for the byte 0
+ * itself, also set its bit in `nul_is_punctuation`. A format is plain bytes, and needs no freeing. It
+ * may hold any bytes: a format that breaks a rule is refused by each call, whatever the text, and
+ * jadvolni_format_error checks it in advance.
  */
 typedef struct jadvolni_format {
     /* The radix, from 2 to 36. Digits above 9 are letters, in either case. */
     uint8_t mantissa_radix;
 
-    /* A byte that counts for nothing among the digits: "_" in "1_000". Where it may be, the flags
-     * on separators say; with none of the first three it is no part of a number. It is no decimal
-     * point: with "," between digits "12,5" is 125, and "12,505" is 12505. Amounts are read as
-     * fixed-point numbers. */
+    /* A byte that is ignored among the digits: "_" in "1_000". The flags on separators say where it
+     * may stand; with none of them, nowhere. It isn't a decimal point: with "," between digits
+     * "12,5" is 125, and "12,505" is 12505. For amounts use fixed-point numbers. */
     uint8_t digit_separator;
 
-    /* A byte that may follow a 0 before the digits: with "x", "0x1F" is read as "1F" is. The radix
-     * stays. */
+    /* A byte that may follow a 0 before the digits: with "x", "0x1F" is read like "1F". It doesn't
+     * change the radix. */
     uint8_t base_prefix;
 
-    /* A byte that may follow the digits: with "h", "1Fh" is read as "1F" is. */
+    /* A byte that may follow the digits: with "h", "1Fh" is read like "1F". */
     uint8_t base_suffix;
 
-    /* Flag: the prefix is matched exactly. Else a letter is matched in either case. */
+    /* Flag: the prefix is matched exactly. Otherwise a letter matches in either case. */
     uint8_t case_sensitive_base_prefix;
 
-    /* Flag: the suffix is matched exactly. Else a letter is matched in either case. */
+    /* Flag: the suffix is matched exactly. Otherwise a letter matches in either case. */
     uint8_t case_sensitive_base_suffix;
 
-    /* Flag: a digit is required, as by required_mantissa_digits: one of the two is enough. */
+    /* Flag: a digit is required, as with required_mantissa_digits: one of the two is enough. */
     uint8_t required_integer_digits;
 
-    /* Flag: a digit is required. With neither field a text without digits is 0. */
+    /* Flag: a digit is required. If neither field is set, a text without digits is 0. */
     uint8_t required_mantissa_digits;
 
     /* Flag: a "+" is refused. */
@@ -286,41 +287,42 @@ typedef struct jadvolni_format {
     /* Flag: a text without a sign is refused. */
     uint8_t required_mantissa_sign;
 
-    /* Flag: a zero before another digit is refused, as in "01". After a prefix it is not. */
+    /* Flag: leading zeros are refused, as in "01". After a prefix they aren't, nor in a number that
+     * a zero makes octal. */
     uint8_t no_integer_leading_zeros;
 
-    /* Flag: separators may come before all digits: "_12". */
+    /* Flag: separators may come before the first digit: "_12". */
     uint8_t integer_leading_digit_separator;
 
     /* Flag: separators may come between two digits: "1_2". */
     uint8_t integer_internal_digit_separator;
 
-    /* Flag: separators may come after all digits: "12_". */
+    /* Flag: separators may come after the last digit: "12_". */
     uint8_t integer_trailing_digit_separator;
 
-    /* Flag: where one separator may be, more may: "1__2". */
+    /* Flag: where one separator may stand, several may: "1__2". */
     uint8_t integer_consecutive_digit_separator;
 
-    /* Flag: separators may come directly after a prefix, as in "0x_1F", as if they might come
-     * before all digits there. No effect without a prefix. */
+    /* Flag: separators may come directly after a prefix, as in "0x_1F", like leading ones. No
+     * effect without a prefix. */
     uint8_t integer_prefix_digit_separator;
 
     /* Flag: "0x", "0o" and "0b" choose the radix 16, 8 or 2 for the digits after them; so do "0X",
-     * "0O" and "0B", unless the prefix is matched exactly. The radix of the format has to be 10,
-     * and is that of a text without one of them. */
+     * "0O" and "0B", unless the prefix is matched exactly. The radix of the format must be 10; it
+     * is used for a text without such a prefix. */
     uint8_t literal_prefixes;
 
-    /* Flag: a number is octal if its first byte, behind a sign, is 0: "0777" is 511, and "08" ends
-     * after its zero. "1007" and "_017" are decimal, and a prefix comes first. The radix of the
-     * format has to be 10. */
+    /* Flag: a number is octal if its first byte, after any sign, is 0: "0777" is 511, and "08" ends
+     * after its zero. "1007" and "_017" are decimal, and a prefix takes precedence. The radix of
+     * the format must be 10. */
     uint8_t literal_octal_zero;
 
-    /* Bits: what is the byte 0 itself, where its own field is 0. JADVOLNI_NUL_IS_SEPARATOR,
+    /* Bits: which of the three bytes is the byte 0 itself, if its field is 0. JADVOLNI_NUL_IS_SEPARATOR,
      * JADVOLNI_NUL_IS_PREFIX and JADVOLNI_NUL_IS_SUFFIX; the other bits are 0. */
     uint8_t nul_is_punctuation;
 
-    /* 0, each of them. They are for fields of later versions: a program that sets such a field, and
-     * runs with this version of the library, is told so by JADVOLNI_UNKNOWN_FIELD. */
+    /* All 0. They are for fields of later versions: if a program sets such a field, and runs with this
+     * version of the library, it gets JADVOLNI_UNKNOWN_FIELD. */
     uint8_t reserved[13];
 } jadvolni_format;
 
@@ -333,18 +335,18 @@ typedef struct jadvolni_format {
 #define JADVOLNI_FORMAT_STANDARD \
     {10, 0, 0, 0, 0, 0, 0, 1, 0, 0, 0, 0, 0, 0, 0, 0, 0, 0, 0, {0}}
 
-/* The standard format with digits of a radix from 2 to 36. One of any other radix is refused by each
- * call, with JADVOLNI_INVALID_MANTISSA_RADIX. */
+/* The standard format with another radix, from 2 to 36. With any other, each call refuses the format,
+ * with JADVOLNI_INVALID_MANTISSA_RADIX. */
 static inline jadvolni_format jadvolni_format_of_radix(int radix)
 {
     jadvolni_format format = JADVOLNI_FORMAT_STANDARD;
-    /* (the mask shows that it fits a byte: of a cast C++ may warn) */
+    /* (the mask shows that it fits a byte: C++ may warn of a cast) */
     format.mantissa_radix = radix >= 2 && radix <= 36 ? radix & 63 : 0;
     return format;
 }
 
-/* The format of the project's tokenizer, and of no language: "1_000", "0xFF", "0o17", "0b1". "0777",
- * which is 511 in C, is 777 unless `literal_octal_zero` is set, and a sign is taken, as in "+1". */
+/* The format of this project's tokenizer, and of no language: "1_000", "0xFF", "0o17", "0b1". "0777",
+ * which is 511 in C, is 777 unless `literal_octal_zero` is set, and a sign is allowed, as in "+1". */
 #define JADVOLNI_FORMAT_LITERAL \
     {10, 95, 0, 0, 0, 0, 0, 1, 0, 0, 0, 0, 1, 0, 1, 0, 1, 0, 0, {0}}
 
@@ -458,19 +460,19 @@ static inline jadvolni_format jadvolni_format_of_radix(int radix)
 #define JADVOLNI_FORMAT_SQL_2023 \
     {10, 95, 0, 0, 0, 0, 0, 1, 0, 0, 0, 0, 1, 0, 0, 1, 1, 0, 0, {0}}
 
-/* JADVOLNI_UNKNOWN_FIELD where a reserved byte or bit isn't 0; else JADVOLNI_OK where the format breaks no
- * rule, and the status of the first that it breaks. */
+/* Returns JADVOLNI_UNKNOWN_FIELD if a reserved byte or bit isn't 0; otherwise the status of the first rule
+ * that the format breaks, or JADVOLNI_OK. */
 uint32_t jadvolni_format_error(const jadvolni_format *format) JADVOLNI_PURE_ JADVOLNI_CHECKED_(1);
 
 /* ---- numbers of 128 bits ---- */
 
-/* A u128, which is high * 2^64 + low. */
+/* A u128: high * 2^64 + low. */
 typedef struct jadvolni_uint128 {
     uint64_t low;
     uint64_t high;
 } jadvolni_uint128;
 
-/* An i128, which is high * 2^64 + low. -1 has the high half -1 and the low half UINT64_MAX. */
+/* An i128: high * 2^64 + low. For -1, high is -1 and low is UINT64_MAX. */
 typedef struct jadvolni_int128 {
     uint64_t low;
     int64_t high;
@@ -483,7 +485,7 @@ typedef struct jadvolni_int128 {
 #pragma clang diagnostic ignored "-Wgcc-compat" /* gcc has no diagnose_if */
 #endif
 
-/* A call, and that of its name with a format. */
+/* A call, and the same with a format. */
 #define JADVOLNI_CALL_(name, type)                                                    \
     jadvolni_result jadvolni_parse_##name(const char *text, size_t len, type *value)  \
         JADVOLNI_CHECKED_(3) JADVOLNI_TEXT_ JADVOLNI_WRITES_(3);                      \
@@ -491,7 +493,7 @@ typedef struct jadvolni_int128 {
         const char *text, size_t len, const jadvolni_format *format, type *value)     \
         JADVOLNI_CHECKED_(3, 4) JADVOLNI_TEXT_ JADVOLNI_WRITES_(4)
 
-/* The six calls of the type `name`, whose numbers C keeps in a `type`. */
+/* The six calls of the type `name`, which is a `type` in C. */
 #define JADVOLNI_CALLS_(name, type)       \
     JADVOLNI_CALL_(name, type);           \
     JADVOLNI_CALL_(name##_front, type);   \
@@ -514,7 +516,7 @@ JADVOLNI_CALLS_(isize, ptrdiff_t);
 #undef JADVOLNI_CALL_
 
 #if !defined __cplusplus && defined __STDC_VERSION__ && __STDC_VERSION__ >= 201112L
-/* What is called where `value` of jadvolni_parse points to no integer: gcc and clang say what it has to be. */
+/* Called if `value` of jadvolni_parse points to no integer: gcc and clang then say what it must be. */
 #ifdef __has_attribute
 #if __has_attribute(error)
 __attribute__((error("jadvolni_parse: `value` has to point to an integer of 8, 16, 32, 64 or 128 bits, "
@@ -523,7 +525,7 @@ __attribute__((error("jadvolni_parse: `value` has to point to an integer of 8, 1
 #endif
 jadvolni_result jadvolni_parse_has_no_integer_to_write_to_(const char *text, size_t len, const void *value);
 
-/* A type that has the 64 bits of another, and isn't it, as `long long` where int64_t is `long`. */
+/* A type with the 64 bits of another that isn't the same, such as `long long` where int64_t is `long`. */
 #define JADVOLNI_SAME_BITS_(name, type, kept, call)                                   \
     static inline JADVOLNI_CHECKED_(3) jadvolni_result jadvolni_parse_##name##_(      \
         const char *text, size_t len, type *value)                                    \
@@ -562,25 +564,26 @@ JADVOLNI_SAME_BITS_(ullong, unsigned long long, uint64_t, jadvolni_parse_u64)
 /* ---- literals ---- */
 
 /*
- * The integer literal that a text begins with, under the format of its language, and its suffix:
+ * Reads the integer literal at the beginning of a text, under the format of its language, with its
+ * suffix:
  *
  *     jadvolni_format rust = JADVOLNI_FORMAT_RUST;
  *     jadvolni_uint128 value;
  *     size_t suffix;
  *     jadvolni_result r = jadvolni_parse_literal("1_000i64;", 9, &rust, &value, &suffix);
  *
- * gives 1000, JADVOLNI_OK at 8, and 5 as the place at which its suffix, "i64", begins. The suffix is
- * all ASCII letters, digits 0 to 9 and "_" behind the number, and it is empty where `suffix` and
- * `r.place` are one. A letter that is a digit of the number is none of it: "0xFFu" has the suffix
- * "u", and "0xFFf" none.
+ * gives 1000, JADVOLNI_OK at 8, and 5 as the place where its suffix, "i64", begins. The suffix is all
+ * ASCII letters, digits 0 to 9 and "_" that follow the number. Without any, `suffix` equals `r.place`.
+ * A letter that is a digit of the number isn't part of the suffix: "0xFFu" has the suffix "u", and
+ * "0xFFf" none.
  *
- * WHICH SUFFIXES A LANGUAGE HAS IS FOR THE CALLER TO ASK; docs/FORMATS.md lists them. "1e5" is 1 with
- * the suffix "e5", and "0b102" is 2 with the suffix "2". What follows a literal is too: in "1.5" a
- * point stands behind the 1.
+ * THE CALLER DECIDES WHICH SUFFIXES ARE VALID; docs/FORMATS.md lists those of each language. "1e5" is 1
+ * with the suffix "e5", and "0b102" is 0b10, that is 2, with the suffix "2". The caller also decides
+ * what may follow a literal: in "1.5" a point follows the 1.
  *
- * The number is that of jadvolni_parse_u128_front_with_format, and so are the faults. At a fault
- * `*value` and `*suffix` are as they were. `suffix` is not NULL, and neither it nor `value` lies in the
- * text, in the format or in the other.
+ * The number and the faults are those of jadvolni_parse_u128_front_with_format. At a fault `*value` and
+ * `*suffix` are unchanged. `suffix` is not NULL, and neither `*suffix` nor `*value` overlaps the text,
+ * the format or the other.
  */
 jadvolni_result jadvolni_parse_literal(const char *text, size_t len, const jadvolni_format *format,
                                        jadvolni_uint128 *value, size_t *suffix)
@@ -602,10 +605,10 @@ typedef enum jadvolni_type {
     JADVOLNI_TYPE_ISIZE = 12
 } jadvolni_type;
 
-/* An entry of a table of suffixes, as JADVOLNI_SUFFIX makes it of a string constant. */
+/* An entry of a table of suffixes. JADVOLNI_SUFFIX makes one from a string constant. */
 typedef struct jadvolni_suffix {
-    /* The suffix, byte for byte: a language that takes "u" and "U" has an entry for each. The empty one
-     * names the type of a literal without a suffix, and its `text` may be NULL. */
+    /* The suffix, byte for byte: a language that accepts "u" and "U" has an entry for each. The empty
+     * suffix is for literals without one, and its `text` may be NULL. */
     const char *text;
     size_t len;
 
@@ -619,8 +622,8 @@ typedef struct jadvolni_suffix {
 #define JADVOLNI_SUFFIX(text, type) {"" text, sizeof("" text) - 1, type, 0}
 
 /*
- * The integer literal that a text begins with, as jadvolni_parse_literal reads it, with the type that
- * its suffix names:
+ * Reads the integer literal at the beginning of a text, as jadvolni_parse_literal does, and checks it
+ * against the type that its suffix names:
  *
  *     static const jadvolni_suffix suffixes[] = {
  *         JADVOLNI_SUFFIX("", JADVOLNI_TYPE_I32),
@@ -631,23 +634,23 @@ typedef struct jadvolni_suffix {
  *     jadvolni_result r = jadvolni_parse_typed_literal("1_000i64;", 9, &rust, suffixes, 3, &value,
  *                                                      &suffix, &entry);
  *
- * gives 1000, JADVOLNI_OK at 8, 5 as the place at which the suffix begins, and 2 as the entry that has it.
- * Where two entries have it, that is the first. The first of these faults that applies is answered:
+ * gives 1000, JADVOLNI_OK at 8, 5 as the place where the suffix begins, and 2 as the index of its entry,
+ * which is the first of two equal ones. It returns the first of these faults that applies:
  *
  *     JADVOLNI_UNKNOWN_FIELD, JADVOLNI_INVALID_SUFFIX_TABLE  of the format and of the table, whatever
- *                              the text is.
- *     those of jadvolni_parse_literal, where no number stands in front.
- *     JADVOLNI_INVALID_DIGIT   where a digit 0 to 9 stands directly behind the number: 4 in "0b102".
+ *                              the text.
+ *     those of jadvolni_parse_literal, if the text doesn't begin with a number.
+ *     JADVOLNI_INVALID_DIGIT   at a digit 0 to 9 directly after the number: 4 in "0b102".
  *     JADVOLNI_UNKNOWN_SUFFIX  where the suffix begins: 2 in "12abc", and 1 in "1e5".
- *     JADVOLNI_OVERFLOW        at the digit with which the number leaves its type: 2 in "300u8".
+ *     JADVOLNI_OVERFLOW        at the digit at which the number leaves its type: 2 in "300u8".
  *
- * A LITERAL HAS NO MINUS: "-128i8" is JADVOLNI_EMPTY at 0, and "128i8" JADVOLNI_OVERFLOW at 2. Where a
- * minus before a literal widens its range, let the entry name the unsigned type, and judge the range
+ * A LITERAL HAS NO MINUS: "-128i8" is JADVOLNI_EMPTY at 0, and "128i8" JADVOLNI_OVERFLOW at 2. If a
+ * minus before a literal widens its range, let the entry name the unsigned type, and check the range
  * where the sign is known.
  *
- * At a fault `*value`, `*suffix` and `*entry` are as they were. `suffixes` points to `suffix_count`
- * entries, and may be NULL where that is 0. None of the three lies in the text, in the format, in the
- * table or in another, and none is NULL.
+ * At a fault `*value`, `*suffix` and `*entry` are unchanged. `suffixes` points to `suffix_count`
+ * entries, and may be NULL if that is 0. `value`, `suffix` and `entry` are not NULL, and what they point
+ * to overlaps neither the text, the format, the table nor each other.
  */
 jadvolni_result jadvolni_parse_typed_literal(const char *text, size_t len, const jadvolni_format *format,
                                              const jadvolni_suffix *suffixes, size_t suffix_count,
@@ -658,58 +661,58 @@ jadvolni_result jadvolni_parse_typed_literal(const char *text, size_t len, const
 /* ---- fixed-point numbers ---- */
 
 /*
- * How fixed-point numbers are written, as amounts of money: an integer part, and digits behind a point.
- * Begin with {0}, and set what differs:
+ * How fixed-point numbers are written, such as amounts of money: an integer part, and decimal places
+ * after a point. Begin with {0}, and set what differs:
  *
  *     jadvolni_fixed cents = {.places = 2, .takes_fewer = 1};
  *     jadvolni_fixed grouped = {.places = 2, .point = ','};
  *     grouped.integer.digit_separator = '.';
  *     grouped.integer.integer_internal_digit_separator = 1;
  *
- * The first reads "12.50", "12.5" and "12", and the second "-1.234,50". Each call refuses a description
- * that breaks a rule, whatever the text is, and jadvolni_fixed_error tells beforehand.
+ * The first reads "12.50", "12.5" and "12", and the second "-1.234,50". A description that breaks a
+ * rule is refused by each call, whatever the text, and jadvolni_fixed_error checks it in advance.
  */
 typedef struct jadvolni_fixed {
-    /* What the integer part looks like: its sign, its separators, its zeros. Where its radix is 0, the
-     * radix is 10, a digit is required, and the other fields are as they are set. It has radix 10, and
-     * neither prefix, suffix, literal prefixes nor octal zeros. */
+    /* What the integer part looks like: its sign, separators and leading zeros. If its radix is 0, it is
+     * taken as 10, and a digit is required; the other fields count as they are set. Any other radix
+     * than 10 is refused, and so are prefixes, suffixes, literal prefixes and octal zeros. */
     jadvolni_format integer;
 
-    /* The byte before the fraction; 0 is '.'. It is no digit, no sign and not the separator. */
+    /* The byte before the decimal places; 0 means '.'. It isn't a digit, a sign or the separator. */
     uint8_t point;
 
-    /* How many digits stand behind the point, at most 38. The number is told in units of the last one:
-     * with two places "12.50" is 1250. With none no point is read. */
+    /* The number of decimal places, at most 38. The result is in units of the last place: with two
+     * places "12.50" is 1250. With 0 places no point is read. */
     uint8_t places;
 
-    /* Flag: fewer digits than `places` are taken, as if zeros stood for the others, and none without a
-     * point. A point without a digit behind it is a fault in a whole text, and isn't read in front of one. */
+    /* Flag: fewer digits than `places` are accepted, as if zeros followed; with none, the point is left
+     * out too. A point without a digit after it is a fault in a whole text, and `_front` stops before it. */
     uint8_t takes_fewer;
 
-    /* 0, each of them: they are for fields of later versions. */
+    /* All 0: they are for fields of later versions. */
     uint8_t reserved[13];
 } jadvolni_fixed;
 
-/* JADVOLNI_UNKNOWN_FIELD where a reserved byte or bit isn't 0; else JADVOLNI_OK where the description
- * breaks no rule, and the status of the first that it breaks. */
+/* Returns JADVOLNI_UNKNOWN_FIELD if a reserved byte or bit isn't 0; otherwise the status of the first rule
+ * that the description breaks, or JADVOLNI_OK. */
 uint32_t jadvolni_fixed_error(const jadvolni_fixed *fixed) JADVOLNI_PURE_ JADVOLNI_CHECKED_(1);
 
 /*
- * The fixed-point number that a whole text is, or that stands in front of it, in units of the last place.
- * It is exact, or there is a fault, and nothing is rounded: "12.505" with two places is
- * JADVOLNI_INVALID_DIGIT at 5, also in front of a text. "-0.05" is -5.
+ * Reads a fixed-point number, which is the whole text or, with `_front`, stands at its beginning, in
+ * units of the last place. The number is exact, or there is a fault; nothing is rounded: "12.505" with
+ * two places is JADVOLNI_INVALID_DIGIT at 5, with `_front` too. "-0.05" is -5.
  *
  *     int64_t value;
  *     jadvolni_result r = jadvolni_parse_i64_fixed("-0.05", 5, &cents, &value);
  *
- *     JADVOLNI_OVERFLOW, JADVOLNI_UNDERFLOW  at the digit with which the number leaves the type; at the
- *                             place where reading stops where only zeros that aren't written take it out.
- *     JADVOLNI_INVALID_DIGIT  at the first byte that can't stand: the digit behind the last place, the
- *                             byte behind a point that has no digit, a point without places.
- *     JADVOLNI_EMPTY          where a digit is missing: at the end of "12.", and where fewer digits than
- *                             asked for stand.
+ *     JADVOLNI_OVERFLOW, JADVOLNI_UNDERFLOW  at the digit at which the number leaves the type; if only
+ *                             zeros that aren't written make it leave the type, where reading stops.
+ *     JADVOLNI_INVALID_DIGIT  at the first byte that isn't allowed: the digit after the last place, the
+ *                             byte after a point that no digit follows, a point if there are no places.
+ *     JADVOLNI_EMPTY          where a digit is missing: at the end of "12.", and where there are fewer
+ *                             digits than required.
  *
- * In front of "12. And" stands 12, and reading stops at 2, where fewer places are taken. All else is as
+ * If fewer places are accepted, `_front` reads 12 from "12. And", and stops at 2. Everything else is as
  * the head of this file says.
  */
 #define JADVOLNI_FIXED_(name, type)                                                            \
@@ -737,24 +740,24 @@ JADVOLNI_FIXED_(isize, ptrdiff_t);
 
 /* ---- lines ---- */
 
-/* Line and column of a place, both counted from 0. */
+/* Line and column of a place, both from 0. */
 typedef struct jadvolni_position {
     size_t line;
     size_t column;
 } jadvolni_position;
 
-/* Where a place is in a text, as an editor counts but for the 1 that it begins with: how many line feeds
- * stand before it, and how many bytes behind the last of them. A line feed belongs to the line that it
- * ends. A place behind the text is taken for its end. */
+/* Where a place is in a text: the number of line feeds before it, and the number of bytes after the last of
+ * them. Both count from 0, where editors count from 1. A line feed belongs to the line that it ends. A
+ * place past the end of the text counts as its end. */
 jadvolni_position jadvolni_line_column(const char *text, size_t len, size_t place)
     JADVOLNI_PURE_ JADVOLNI_TEXT_;
 
 /* ---- columns ---- */
 
 /*
- * The numbers of a text's fields, read into an array by one call. A field is the bytes up to the
- * separator, which is one byte. The last field needs none after it, and a last separator starts no
- * further field: so the lines of a file are its fields between line feeds. The empty text has none.
+ * Reads the numbers of a text's fields into an array. A field is the bytes up to the separator, which is
+ * one byte. The last field needs no separator after it, and a separator at the end starts no further
+ * field: so the lines of a file are its fields between line feeds. The empty text has no fields.
  *
  *     int64_t values[1000];
  *     size_t count;
@@ -764,35 +767,35 @@ jadvolni_position jadvolni_line_column(const char *text, size_t len, size_t plac
  *         fprintf(stderr, "line %zu, byte %zu: %s\n", count + 1, r.place,
  *                 jadvolni_status_name(r.status));
  *
- *     r.status  JADVOLNI_OK, or what is wrong with the first field that is no number, or with the
- *               format, which is looked at first.
- *     r.place   At JADVOLNI_OK where reading stopped: `len`, or the start of the first field for
- *               which the array had no room. A call on the text from there on goes on exactly there,
- *               and counts its places from there. At a fault of a field the place of the byte that
- *               it is about, counted from the start of the text; at a fault of the format 0.
- *     count     How many numbers were read. At a fault of a field that is the field's index, counted
- *               from 0. It is written by every call.
- *     values    The numbers, in order. From `values[count]` on the array is as it was, also after a
- *               fault; the numbers before it stay valid.
+ *     r.status  JADVOLNI_OK, or what is wrong with the first field that isn't a number, or with the
+ *               format, which is checked first.
+ *     r.place   At JADVOLNI_OK, where reading stopped: `len`, or the start of the first field that
+ *               had no room in the array. A call on the text from there on continues exactly there,
+ *               and counts its places from there. At a fault of a field, the place of the wrong or
+ *               missing byte, from the start of the text; at a fault of the format, 0.
+ *     count     How many numbers were read. At a fault of a field that is the field's index, from 0.
+ *               Every call writes it.
+ *     values    The numbers, in order. From `values[count]` on the array is unchanged, even after a
+ *               fault; the numbers before it are valid.
  *
  * So "12,7,x" with the separator ',' gives 12 and 7, count 2, and JADVOLNI_INVALID_DIGIT at 5. With
  * room for one it gives 12, count 1, and JADVOLNI_OK at 3: what has no room isn't looked at.
  *
- * Any byte may be the separator, also one that the format gives a meaning: the text is cut first, and
- * then each field is read whole. "2026-11-23" as u16 between '-' is 2026, 11 and 23.
- * A table isn't one column: between ',' the text "1,2\n3,4" has the field "2\n3". Hand over a line
- * at a time.
+ * Any byte may be the separator, even one that the format gives a meaning: the text is split first, and
+ * then each field is read as a whole text. "2026-11-23" as u16 between '-' is 2026, 11 and 23.
+ * A table isn't one column: between ',' the text "1,2\n3,4" has the field "2\n3". Pass one line at a
+ * time.
  *
- * RETURNS, BLANKS, MISSING NUMBERS AND AMOUNTS are for tables, and a table of one column reads them of
- * lines. With '\n' as its separator no byte parts cells:
+ * CARRIAGE RETURNS, BLANKS, MISSING NUMBERS AND AMOUNTS need a table. A table of one column reads lines
+ * with them: if its separator is '\n', each line is one cell:
  *
  *     jadvolni_table lines = {.separator = '\n', .allows_returns = 1, .allows_blanks = 1};
  *     jadvolni_table_column cents = {.places = 2, .i64 = {values, 1000}, .present = {bits, 125}};
  *     jadvolni_table_result r = jadvolni_parse_table(text, len, true, &lines, 1000, &cents, 1);
  *
- * A FILE IN BLOCKS. The end of a text ends its last field, so a file that is handed over block by
- * block GIVES WRONG NUMBERS, WITH JADVOLNI_OK: "12" and "34\n" are 12 and 34, where the file has 1234.
- * Hand over whole lines, and keep what follows the last line feed for the next block:
+ * A FILE IN BLOCKS. The end of a text ends its last field, so a file that is passed block by block
+ * GIVES WRONG NUMBERS, WITH JADVOLNI_OK: "12" and "34\n" are 12 and 34, where the file has 1234.
+ * Pass whole lines, and keep what follows the last line feed for the next block:
  *
  *     size_t kept = 0, got;
  *     while ((got = fread(block + kept, 1, size - kept, file)) > 0) {
@@ -804,12 +807,12 @@ jadvolni_position jadvolni_line_column(const char *text, size_t len, size_t plac
  *     if (ferror(file) || kept == size) return 0; // or a line is longer than the block
  *     read_lines(block, kept);                    // a last line without a line feed
  *
- * `read_lines` stands for a loop of jadvolni_parse_i64_column until it has read all of its text. Where
- * the array has room for a whole block, jadvolni_parse_i64_column_part does both steps at once.
+ * `read_lines` stands for a loop of jadvolni_parse_i64_column until it has read all of its text. If the
+ * array has room for a whole block, jadvolni_parse_i64_column_part does both steps at once.
  *
- * Beside what the head of this file says, `values` points to `capacity` numbers that may be written,
- * and may be NULL where `capacity` is 0; `count` is not NULL. Neither lies in the text, in the format
- * or in the other.
+ * In addition to what the head of this file requires, `values` points to `capacity` writable numbers,
+ * and may be NULL if `capacity` is 0; `count` is not NULL. The numbers and `*count` overlap neither the
+ * text, the format nor each other.
  */
 #define JADVOLNI_COLUMN_(name, type)                                                      \
     jadvolni_result jadvolni_parse_##name##_column(                                       \
@@ -828,9 +831,9 @@ JADVOLNI_COLUMN_(i64, int64_t);
 
 #undef JADVOLNI_COLUMN_
 
-/* Where the field starts that the first `len` bytes of a text end in: behind their last separator, or
- * at 0. So with a fault's place as `len` it is where the wrong field starts, and of a block that more
- * follows it is how many bytes are whole fields. */
+/* Returns where the last field of the first `len` bytes starts: after their last separator, or at 0. With a
+ * fault's place as `len` that is where the wrong field starts. Of a block that isn't the file's last, it is
+ * how many bytes are whole fields. */
 size_t jadvolni_field_start(const char *text, size_t len, uint8_t separator)
     JADVOLNI_PURE_ JADVOLNI_TEXT_;
 
@@ -838,43 +841,43 @@ size_t jadvolni_field_start(const char *text, size_t len, uint8_t separator)
 
 /* How a table is written. Begin with {0}, and set what differs. */
 typedef struct jadvolni_table {
-    /* The byte between two cells of a row. A line feed ends a row, whatever this is. */
+    /* The byte between two cells of a row. Whatever it is, a line feed ends a row. */
     uint8_t separator;
 
-    /* Flag: a carriage return stands before each line feed. Without it a return is a byte of its
-     * cell, and so a fault in a number. `allows_returns` is for rows that end either way. */
+    /* Flag: each line feed has a carriage return before it. Otherwise a carriage return is a byte of its
+     * cell, and so a fault in a number. For rows that end either way there is `allows_returns`. */
     uint8_t has_returns;
 
-    /* Flag: a cell may stand within quotes, '"', and then hold separators and line feeds. A quote that
-     * is the separator parts cells. */
+    /* Flag: a cell may be enclosed in quotes, '"', and may then contain separators and line feeds. If the
+     * separator is a quote, it still separates cells. */
     uint8_t has_quotes;
 
-    /* Flag: spaces and tabs may stand around a number, or around what stands for a missing one. */
+    /* Flag: spaces and tabs may surround a number, or what stands for a missing one. */
     uint8_t allows_blanks;
 
-    /* Flag: a row without a byte is none. Else it is a row of one empty cell, or by widths of none. */
+    /* Flag: empty rows are skipped. Otherwise an empty row has one empty cell, or with widths none. */
     uint8_t skips_empty_rows;
 
-    /* Flag: a row is a record, of as many bytes as the widths say together, but at least one. Nothing
-     * stands between two rows, and a line feed is a byte as any other. It needs widths. */
+    /* Flag: a row is a record: as many bytes as the sum of the widths, but at least one. Nothing
+     * separates rows, and a line feed is a byte like any other. This needs widths. */
     uint8_t is_records;
 
-    /* Flag: a carriage return may stand before a line feed that ends a row, and is no byte of the row:
-     * so each row may end either way. Any other return is a byte of its cell, also at the end of the
-     * text. Where `has_returns` is set, this changes nothing. */
+    /* Flag: the line feed that ends a row may have a carriage return before it, which isn't a byte of the
+     * row: so each row may end either way. Any other carriage return is a byte of its cell, even at the
+     * end of the text. No effect if `has_returns` is set. */
     uint8_t allows_returns;
 
-    /* 0, each of them: they are for fields of later versions. */
+    /* All 0: they are for fields of later versions. */
     uint8_t reserved[9];
 
-    /* What stands for a missing number, byte for byte, in columns that have bits for it: in a cell, also
-     * within its quotes, and among blanks where they are allowed. With no byte, which NULL may stand
-     * for, an empty cell does. */
+    /* What stands for a missing number, byte for byte, in columns that have bits: as a whole cell, also
+     * within its quotes, and between blanks if they are allowed. With no bytes, it is an empty cell that
+     * stands for one, and `missing` may be NULL. */
     const char *missing;
     size_t missing_len;
 
-    /* How many bytes the cell of each column has: then none is a separator. Without widths, cells
-     * stand between separators. */
+    /* How many bytes the cell of each column has; there are then no separators. Without widths, cells
+     * have separators between them. */
     const size_t *widths;
     size_t width_count;
 } jadvolni_table;
@@ -886,42 +889,42 @@ typedef struct jadvolni_table {
         size_t capacity;            \
     } name
 
-/* Where a text stands that a cell holds: within the quotes of a cell that has them, and with its blanks. */
+/* Where the text of a cell is: within its quotes if it has them, and including its blanks. */
 typedef struct jadvolni_cell_text {
-    size_t start; /* the place of its first byte, counted from the start of the text that was read */
+    size_t start; /* the place of its first byte, from the start of the text that was read */
     size_t size;  /* how many bytes it has */
 
-    /* 1 where doubled quotes stand among them, of which each two stand for one; else 0. */
+    /* 1 if the text contains doubled quotes, each of which stands for one; otherwise 0. */
     uint8_t has_doubled_quotes;
 } jadvolni_cell_text;
 
 /*
- * A column of a table: what its cells look like, and the array that their numbers go to, or where their
- * texts stand. SET ONE OF THE ARRAYS, which says the type; of several that have room the first is taken.
- * A column without one, as {0}, isn't read: its cells may hold any bytes but the separator and a line
- * feed. Where rows are asked for, its format has to have the radix 0, as {0} has it: else it is
- * JADVOLNI_INVALID_TABLE.
+ * A column of a table: what its cells look like, and the array for its numbers or for the places of its
+ * texts. SET ONE OF THE ARRAYS: it chooses the type. If several have room, the first of them is used.
+ * A column with none, such as {0}, isn't read: its cells may hold any bytes but the separator and a line
+ * feed. If rows are asked for, the radix of its format must then be 0, as in {0}: otherwise the status
+ * is JADVOLNI_INVALID_TABLE.
  *
  *     jadvolni_table_column amount = {.places = 2, .point = ',', .i64 = {cents, 1000}};
  *     amount.format.digit_separator = '.';
  *     amount.format.integer_internal_digit_separator = 1;
  *     jadvolni_table_column purpose = {.text = {texts, 1000}};
  *
- * The first reads "-1.234,50" as -123450, and the second tells where each text stands.
+ * The first reads "-1.234,50" as -123450, and the second stores where each text is.
  */
 typedef struct jadvolni_table_column {
-    /* What a number looks like, or its integer part where it has places. Where no array of numbers has
-     * room, its radix alone is looked at, and for texts nothing of it. */
+    /* What a number looks like, or its integer part if it has decimal places. If no array of numbers has
+     * room, only its radix is looked at, and for texts nothing. */
     jadvolni_format format;
 
-    /* How fixed-point numbers are written, as in jadvolni_fixed, whose integer part is the format: so where
-     * its radix is 0, the radix is 10. Where `places` is 0, cells are integers, and neither of the
-     * other two is looked at. */
+    /* How fixed-point numbers are written, as in jadvolni_fixed. The format is their integer part: so if
+     * its radix is 0, it is taken as 10. If `places` is 0, cells are integers, and the other two are
+     * ignored. */
     uint8_t point;
     uint8_t places;
     uint8_t takes_fewer;
 
-    /* 0, each of them, where an array of numbers has room: they are for fields of later versions. */
+    /* All 0, if an array of numbers has room: they are for fields of later versions. */
     uint8_t reserved[13];
 
     JADVOLNI_ARRAY_(i64, int64_t);
@@ -933,16 +936,16 @@ typedef struct jadvolni_table_column {
     JADVOLNI_ARRAY_(i8, int8_t);
     JADVOLNI_ARRAY_(u8, uint8_t);
 
-    /* Where texts stand. A cell may hold any bytes, and doubled quotes within its own: "a ""b""" is the
-     * text a ""b"", of which jadvolni_fold_quotes makes a "b". Blanks count as any byte. */
+    /* Where texts are. A text may contain any bytes, and doubled quotes within its own: "a ""b""" is the
+     * text a ""b"", which jadvolni_fold_quotes turns into a "b". Blanks are bytes like any other. */
     struct {
         jadvolni_cell_text *texts;
         size_t capacity;
     } text;
 
-    /* The bits that say where there is a number or a text: for row k the bit k & 7 of byte k >> 3, where
-     * bit 0 is the lowest. It is 1 where there is one, and 0 for a missing one, which is 0 in the array, or
-     * a text of no bytes at place 0. Without bytes none may be missing. */
+    /* The bits that say whether a row has a number or a text: for row k, bit k & 7 of byte k >> 3, where bit
+     * 0 is the lowest. It is 1 if there is one, and 0 if it is missing: then the array has 0, or a text of
+     * no bytes at place 0. Without these bytes none may be missing. */
     struct {
         uint8_t *bytes;
         size_t size;
@@ -951,7 +954,7 @@ typedef struct jadvolni_table_column {
 
 #undef JADVOLNI_ARRAY_
 
-/* What is answered of a table. */
+/* What the call on a table returns. */
 typedef struct jadvolni_table_result {
     uint32_t status; /* a jadvolni_status */
     size_t column;
@@ -960,9 +963,9 @@ typedef struct jadvolni_table_result {
 } jadvolni_table_result;
 
 /*
- * The rows of a text, each column read into an array of its own by one call. A row is a line, and its
- * cells stand between separators: one cell more than separators, and as many as there are columns. Or
- * cells have widths, and rows may be records.
+ * Reads the rows of a text, each column into an array of its own. A row is a line. Its cells have
+ * separators between them: it has one cell more than separators, and needs one for each column. Instead
+ * of separators, cells may have widths, and rows may then be records.
  *
  *     uint16_t days[1000];
  *     int64_t cents[1000];
@@ -977,46 +980,45 @@ typedef struct jadvolni_table_result {
  *         fprintf(stderr, "row %zu, column %zu, byte %zu: %s\n", r.rows + 1, r.column + 1, r.place,
  *                 jadvolni_table_text(r, &ledger, 1000, columns, 3));
  *
- *     r.status  JADVOLNI_OK, or what is wrong with the first wrong cell in reading order, row by row,
- *               and in a row cell by cell, then their number, then the return. What is wrong with the
- *               table or with a column comes before all text: an array with too little room, then its
- *               format, column by column.
- *     r.column  At a fault the column, counted from 0. Where a row has too few cells, it is how many
- *               it has; where it has too many or lacks its return, how many columns there are. Else 0.
- *     r.rows    How many rows were read, and so at a fault of the text the number of its row.
- *     r.place   At JADVOLNI_OK where reading stopped: the end of the text, or the start of the first
- *               row behind `capacity` rows. A call on the text from there on goes on exactly there. At
- *               a fault of the text its byte; else 0. Places are counted from the start of the text.
+ *     r.status  JADVOLNI_OK, or the first fault in reading order: row by row, and in each row first its
+ *               cells, then their number, then the carriage return. The table and its columns are
+ *               checked before the text: of each column first the room, then the format.
+ *     r.column  At a fault, the column, from 0. If a row has too few cells, how many it has; if it has
+ *               too many or lacks its carriage return, how many columns there are. Otherwise 0.
+ *     r.rows    How many rows were read; so at a fault of the text, the number of its row, from 0.
+ *     r.place   At JADVOLNI_OK, where reading stopped: the end of the text, or the start of the first
+ *               row after `capacity` rows. A call on the text from there on continues exactly there. At
+ *               a fault of the text, its place, from the start of the text; otherwise 0.
  *
- * The number of a cell, or where its text stands, goes to its row's place in its column's array. Behind a
- * fault all of them before the wrong cell are there, those of its own row too, and all else in the arrays
- * is as it was.
+ * For each cell, the number, or the place of the text, is stored in the array of its column at the index
+ * of its row. After a fault, those of all cells before the wrong one are there, even in its row, and the
+ * rest of each array is unchanged.
  *
  * So "365;rent;-80000\r\n" in the table above gives 365 and -80000, one row, and JADVOLNI_OK at 17. With
  * x for the last 0 it gives no row, and JADVOLNI_INVALID_DIGIT in column 2 at 14.
  *
- * CELLS OF GIVEN WIDTHS. Each column has so many bytes of a row. A row that ends within a cell or before
- * it has too few, and the first byte behind the last cell is one cell too many.
+ * CELLS OF GIVEN WIDTHS. Each column has a fixed number of bytes of a row. A row that ends before or
+ * within a cell has too few cells, and the first byte after the last cell is one cell too many.
  *
  *     static const size_t widths[] = {3, 4, 6};
  *     jadvolni_table fixed = {.allows_blanks = 1, .widths = widths, .width_count = 3};
  *
  * So with the columns above "365rent-80000\n 36bank  1250\n" has two rows, and so has the text without
- * its line feeds where `is_records` is set.
+ * its line feeds if `is_records` is set.
  *
- * A FILE IN BLOCKS. Where `is_last` is false the text is a part of one, and a row that it ends in is
- * left: put the bytes from `r.place` on in front of the next part. Rows and places are counted from the
- * start of each part. Where `r.place` is 0 in a part as long as the block, a row is longer than that.
- * `capacity` bounds the rows of one call: before the next part is read, call again with what is left,
- * until fewer rows than `capacity` come.
+ * A FILE IN BLOCKS. If `is_last` is false, the text is one part of several, and an unfinished row at its
+ * end isn't read: put the bytes from `r.place` on in front of the next part. Rows and places count from
+ * the start of each part. If `r.place` is 0 for a part as long as the block, a row is longer than the
+ * block. A call reads at most `capacity` rows: before you read the next part, call again with what is
+ * left, until fewer rows than `capacity` come.
  *
- * A header is no row of the table: hand over what follows it.
+ * A header isn't a row of the table: pass what follows it.
  *
- * Beside what the head of this file says, `columns` points to `column_count` of them, and may be NULL
- * where that is 0. The array of a column points to as many numbers that may be written, `present.bytes`
- * to `present.size` bytes, `missing` to `missing_len` and `widths` to `width_count` widths, and each may
- * be NULL where its count is 0. None that is written lies in the text, in a struct or in another. The
- * structs stay as they are.
+ * In addition to what the head of this file requires, `columns` points to `column_count` columns, and may
+ * be NULL if that is 0. The array of a column points to as many writable elements as its capacity,
+ * `present.bytes` to `present.size` writable bytes, `missing` to `missing_len` bytes and `widths` to
+ * `width_count` widths, and each may be NULL if its count is 0. Nothing that is written overlaps the text,
+ * a struct or another array. The structs themselves are unchanged.
  */
 jadvolni_table_result jadvolni_parse_table(const char *text, size_t len, bool is_last,
                                            const jadvolni_table *table, size_t capacity,
@@ -1033,29 +1035,29 @@ typedef struct jadvolni_row_result {
 } jadvolni_row_result;
 
 /*
- * Where the row of a number is, counted from 0: where it starts, and where the next one does, or the end
- * of the text. It is for a row at fault, whose number jadvolni_parse_table tells in `r.rows`: the text
- * from `stop` on has the rows behind it.
+ * Returns where the row with a given number, from 0, starts, and where the next one does, or the end of
+ * the text. Use it after a fault, with the number that jadvolni_parse_table returned in `r.rows`: the
+ * text from `stop` on has the rows after the bad one.
  *
  *     jadvolni_row_result bad = jadvolni_row_place(text, len, &ledger, r.rows);
  *     fprintf(stderr, "%.*s", (int)(bad.stop - bad.start), text + bad.start);
  *
- *     status    JADVOLNI_OK, or JADVOLNI_INVALID_TABLE, and then the places are 0.
- *     start     The place of the row's first byte, or `len` where the text has no row of that number.
- *     stop      The place behind the row, what ends it, and the empty rows behind it that are skipped.
+ *     status    JADVOLNI_OK, or JADVOLNI_INVALID_TABLE, and then both places are 0.
+ *     start     The place of the row's first byte. If there is no such row, both places are `len`.
+ *     stop      The place after the row, its line end, and the empty rows after it that are skipped.
  *
- * A quote that nothing closes ends at the end of the text, and so does its row; in a part of a text the
- * row that it ends in stops with the part. In "1;;2\r\nx;;3\r\n" the row 1 is from 6 to 12.
+ * A quote that is never closed extends to the end of the text, and so does its row; in a part of a text,
+ * an unfinished row at the end stops with the part. In "1;;2\r\nx;;3\r\n" row 1 is from 6 to 12.
  *
- * What is asked of the text and of the table is as of jadvolni_parse_table. Widths may be of any number.
- * The time is that of a walk over the text up to the row.
+ * The text and the table must be as for jadvolni_parse_table, but there may be any number of widths. It
+ * takes the time to scan the text up to the row.
  */
 jadvolni_row_result jadvolni_row_place(const char *text, size_t len, const jadvolni_table *table,
                                        size_t row) JADVOLNI_CHECKED_(3) JADVOLNI_TEXT_;
 
-/* Where a cell is, with its quotes and blanks. */
+/* Where a cell is, including its quotes and blanks. */
 typedef struct jadvolni_cell_place {
-    size_t start; /* the place of its first byte, counted from the start of the text that was read */
+    size_t start; /* the place of its first byte, from the start of the text that was read */
     size_t size;  /* how many bytes it has */
 } jadvolni_cell_place;
 
@@ -1066,8 +1068,8 @@ typedef struct jadvolni_cells_result {
 } jadvolni_cells_result;
 
 /*
- * Where the cells of a row are: of the first row of the text, from the column `first` on, counted from 0.
- * It is for the names of a header, and for the cell of a fault:
+ * Finds the cells of the first row of the text, from the column `first` on, counted from 0. Use it for
+ * the names in a header, and for the cell of a fault:
  *
  *     jadvolni_cell_place cell;
  *     const char *row = text + bad.start;
@@ -1076,44 +1078,42 @@ typedef struct jadvolni_cells_result {
  *         fprintf(stderr, "%.*s", (int)cell.size, row + cell.start);
  *
  *     status    JADVOLNI_OK, or JADVOLNI_INVALID_TABLE, and then the count is 0.
- *     count     How many cells the row has, also those before `first` and those without room.
- *     cells     Where they are, from `first` on, as far as there is room. What lies behind that is as it
- *               was.
+ *     count     How many cells the row has, including those before `first` and those without room.
+ *     cells     Where they are, from `first` on, as long as there is room. The rest of the array is
+ *               unchanged.
  *
- * By widths the cells are those that are wholly there, and one more where bytes are left. Between
- * separators a row without a byte has one cell, which is empty; a text without a byte has no row. An
- * empty row counts here, also where the table skips such, and what the cells hold isn't judged. In
- * "ab;;\"c;d\"\r\n", with quotes and returns, there are 3 cells, and from the column 1 on they are at 3
- * with 0 bytes and at 4 with 5.
+ * With widths, the cells are those that are complete, and one more if bytes are left. With separators, an
+ * empty row has one empty cell; an empty text has no row. An empty row counts here even if the table
+ * skips empty rows, and the contents of cells aren't checked. In "ab;;\"c;d\"\r\n", with quotes and
+ * returns, there are 3 cells; from column 1 on they are at 3 with 0 bytes and at 4 with 5.
  *
- * What is asked of the text and of the table is as of jadvolni_row_place. `cells` points to `capacity`
- * structs that may be written, and may be NULL where that is 0. They lie in no other. The time is that of
- * a walk over the row.
+ * The text and the table must be as for jadvolni_row_place. `cells` points to `capacity` writable
+ * structs, and may be NULL if that is 0. They overlap nothing else. It takes the time to scan the row.
  */
 jadvolni_cells_result jadvolni_row_cells(const char *text, size_t len, const jadvolni_table *table,
                                          size_t first, jadvolni_cell_place *cells, size_t capacity)
     JADVOLNI_CHECKED_(3) JADVOLNI_TEXT_ JADVOLNI_WRITES_(5, 6);
 
-/* A row at fault. */
+/* A bad row: one with a fault. */
 typedef struct jadvolni_bad_row {
-    uint32_t status; /* a jadvolni_status: what is wrong with its first wrong cell */
+    uint32_t status; /* a jadvolni_status: its first fault */
 
-    /* 0, each of them: they are for what later versions tell. */
+    /* All 0: they are for later versions. */
     uint8_t reserved[20];
 
-    /* Its number among all rows of the text, right and bad, counted from 0. */
+    /* Its number among all rows of the text, good and bad, from 0. */
     size_t row;
 
-    /* The column of the fault, and its place in the text, as jadvolni_parse_table tells them. */
+    /* The column of the fault, and its place in the text, as jadvolni_parse_table returns them. */
     size_t column;
     size_t place;
 
-    /* Where the row starts, and where the next one does, as jadvolni_row_place tells them. */
+    /* Where the row starts, and where the next one does, as jadvolni_row_place returns them. */
     size_t start;
     size_t stop;
 } jadvolni_bad_row;
 
-/* What is answered of a table whose bad rows are skipped. */
+/* What the call that skips bad rows returns. */
 typedef struct jadvolni_skipping_result {
     uint32_t status; /* a jadvolni_status */
     size_t column;
@@ -1123,7 +1123,7 @@ typedef struct jadvolni_skipping_result {
 } jadvolni_skipping_result;
 
 /*
- * The rows of a text, as jadvolni_parse_table reads them, but those at fault are skipped and counted.
+ * Reads the rows of a text, as jadvolni_parse_table does, but skips the bad ones and counts them.
  *
  *     jadvolni_bad_row bad[10];
  *     jadvolni_skipping_result r = jadvolni_parse_table_skipping(text, len, true, &ledger, 1000,
@@ -1132,30 +1132,29 @@ typedef struct jadvolni_skipping_result {
  *         fprintf(stderr, "row %zu, column %zu, byte %zu: %s\n", bad[k].row + 1, bad[k].column + 1,
  *                 bad[k].place, jadvolni_status_text(bad[k].status));
  *
- *     r.status    JADVOLNI_OK, whatever the text is, or what is wrong with the table or with a column.
- *     r.column    The column that is wrong, counted from 0; else 0.
- *     r.rows      How many right rows were read: `capacity` at most.
- *     r.bad_rows  How many bad rows were skipped, also those that `bad` has no room for.
- *     r.place     Where reading stopped: where the row behind the last of `capacity` right ones starts,
- *                 or the end of the text. A call on the text from there on goes on exactly there, and
- *                 counts its rows and places from there.
- *     bad         What is known of the bad rows, in order, as far as there is room. What lies behind
- *                 that is as it was.
+ *     r.status    JADVOLNI_OK, whatever the text, or what is wrong with the table or with a column.
+ *     r.column    The column that is wrong, from 0; otherwise 0.
+ *     r.rows      How many good rows were read, at most `capacity`.
+ *     r.bad_rows  How many bad rows were skipped, including those that `bad` has no room for.
+ *     r.place     Where reading stopped: the start of the row after the last of `capacity` good ones,
+ *                 or the end of the text. A call on the text from there on continues exactly there,
+ *                 and counts its rows and places from there.
+ *     bad         The bad rows, in order, as long as there is room. The rest of the array is unchanged.
  *
- * The right rows are stored one behind another, all of them and no other. A row with too few or too
- * many cells is at fault as any other. A bad row is read up to its fault, into the place of the next
- * right one: so where fewer rows come than `capacity`, the place behind the last one, and its bit, may
- * have changed in each array. All else there is as it was.
+ * All good rows are stored, and no others, without gaps. A row with too few or too many cells is as bad
+ * as any other. A bad row is read up to its fault, into the elements of the next good one: so if fewer
+ * rows than `capacity` come, the element after the last one, and its bit, may have changed in each
+ * array. Everything else there is unchanged.
  *
  * So "365;rent;-80000\r\n366;x\r\n367;;7\r\n" in the ledger gives two rows, 365 and 367, and one bad row:
  * number 1, JADVOLNI_TOO_FEW_CELLS in column 2 at 22, from 17 to 24. The place is 32.
  *
- * A FILE IN BLOCKS is read as by jadvolni_parse_table: where `is_last` is false, the row that the text
- * ends in is left, and where `capacity` rows came, call again with what is left before the next part.
- * A bad row behind the last of `capacity` right ones isn't read: the next call skips it.
+ * A FILE IN BLOCKS is read as with jadvolni_parse_table: if `is_last` is false, an unfinished row at the
+ * end isn't read, and after `capacity` rows, call again with what is left before the next part. A bad
+ * row after the last of `capacity` good ones isn't read: the next call skips it.
  *
- * Beside what is asked of jadvolni_parse_table, `bad` points to `bad_capacity` structs that may be written,
- * and may be NULL where that is 0. They lie in no other.
+ * In addition to what jadvolni_parse_table requires, `bad` points to `bad_capacity` writable structs, and
+ * may be NULL if that is 0. They overlap nothing else.
  */
 jadvolni_skipping_result jadvolni_parse_table_skipping(
     const char *text, size_t len, bool is_last, const jadvolni_table *table, size_t capacity,
@@ -1165,18 +1164,18 @@ jadvolni_skipping_result jadvolni_parse_table_skipping(
 /* ---- quotes ---- */
 
 /*
- * A text with each doubled quote as one, and the answer is how many bytes that has: at most `len`. It
- * is for what stands within the quotes of a cell.
+ * Copies a text, with each doubled quote as one, and returns how many bytes that takes: at most `len`.
+ * It is for what stands within the quotes of a cell.
  *
  *     size_t size = jadvolni_fold_quotes(text, len, folded, sizeof folded);
  *     if (size <= sizeof folded) fwrite(folded, 1, size, stdout);
  *
- * Where the answer is more than `capacity`, nothing was written, and a call with so many bytes writes
- * all. What lies behind the bytes that are written is as it was. A quote that isn't doubled stays, so of
- * three in a row two are left. The text 5"" nails gives 5" nails, and 8.
+ * If that is more than `capacity`, nothing is written; a call with room for as many bytes writes them
+ * all. What follows the written bytes is unchanged. A quote that isn't doubled stays, so of three in a
+ * row two are left. The text 5"" nails gives 5" nails, and 8.
  *
- * `folded` points to `capacity` bytes that may be written, and may be NULL where that is 0. They don't
- * lie in the text.
+ * `folded` points to `capacity` writable bytes, and may be NULL if that is 0. They don't overlap the
+ * text.
  */
 size_t jadvolni_fold_quotes(const char *text, size_t len, char *folded, size_t capacity)
     JADVOLNI_TEXT_ JADVOLNI_WRITES_(3, 4);
@@ -1190,12 +1189,12 @@ size_t jadvolni_fold_quotes(const char *text, size_t len, char *folded, size_t c
 #undef JADVOLNI_TEXT_
 #undef JADVOLNI_WRITES_
 
-/* ---- helpers, written in C: they are tested, and nothing of them is proved ---- */
+/* ---- helpers, written in C: they are tested, and nothing about them is proved ---- */
 
 /*
- * The column of a part of a text, as a block of a file: of all its fields where it is the last part,
- * and else of its whole ones. All else is as of jadvolni_parse_u64_column. Put the bytes from `r.place`
- * on in front of the next part: read so, all parts have the numbers of the whole text.
+ * Reads the column of a part of a text, such as a block of a file: all fields if it is the last part,
+ * otherwise its whole ones. Everything else is as for jadvolni_parse_u64_column. Put the bytes from
+ * `r.place` on in front of the next part: then all parts give the numbers of the whole text.
  */
 #define JADVOLNI_COLUMN_PART_(name, type)                                                      \
     static inline JADVOLNI_CHECKED_(5, 8) jadvolni_result jadvolni_parse_##name##_column_part( \
@@ -1219,7 +1218,7 @@ JADVOLNI_COLUMN_PART_(i64, int64_t)
 #undef JADVOLNI_COLUMN_PART_
 #undef JADVOLNI_CHECKED_
 
-/* The name of a status, as "Overflow" for JADVOLNI_OVERFLOW; "Unknown" for a number that is none. */
+/* The name of a status, such as "Overflow" for JADVOLNI_OVERFLOW; "Unknown" if there is no such status. */
 static inline const char *jadvolni_status_name(uint32_t status)
 {
     switch (status) {
@@ -1253,7 +1252,7 @@ static inline const char *jadvolni_status_name(uint32_t status)
     }
 }
 
-/* What a status says, as "missing digit", or "the radix has to be 2 to 36" for a fault of a format. */
+/* What a status means, such as "missing digit", or "the radix has to be 2 to 36" for a fault of a format. */
 static inline const char *jadvolni_status_text(uint32_t status)
 {
     switch (status) {
@@ -1307,7 +1306,7 @@ static inline const char *jadvolni_status_text(uint32_t status)
     }
 }
 
-/* What a column breaks that is refused with a status, where so many rows are asked for. */
+/* Which condition a column breaks, if it was refused with a status in a call for this many rows. */
 static inline const char *jadvolni_column_text_(uint32_t status, size_t rows,
                                                 const jadvolni_table_column *column)
 {
@@ -1326,8 +1325,8 @@ static inline const char *jadvolni_column_text_(uint32_t status, size_t rows,
     return "the column's bits have room for fewer rows than are asked for: a byte is for 8 rows";
 }
 
-/* What an answer of jadvolni_parse_table says, which was called with these arguments: the text of its
- * status, and where the table or the column `answer.column` is refused, which condition it breaks. */
+/* What a result of jadvolni_parse_table means, which was called with these arguments: the text of its
+ * status, and if the table or the column `answer.column` was refused, which condition it breaks. */
 static inline const char *jadvolni_table_text(jadvolni_table_result answer, const jadvolni_table *table,
                                               size_t capacity, const jadvolni_table_column *columns,
                                               size_t column_count)
@@ -1346,18 +1345,18 @@ static inline const char *jadvolni_table_text(jadvolni_table_result answer, cons
 }
 
 #ifdef __SIZEOF_INT128__
-/* The types of 128 bits that gcc and clang have. */
+/* The types of 128 bits of gcc and clang. */
 __extension__ typedef unsigned __int128 jadvolni_native_uint128;
 __extension__ typedef __int128 jadvolni_native_int128;
 
-/* The number of two halves. */
+/* The number whose halves these are. */
 static inline jadvolni_native_uint128 jadvolni_u128_number(jadvolni_uint128 halves)
 {
     jadvolni_native_uint128 high = halves.high;
     return high << 64 | halves.low;
 }
 
-/* The number of two halves, high * 2^64 + low, of which the high one has the sign. */
+/* The number whose halves these are, high * 2^64 + low; the high one has the sign. */
 static inline jadvolni_native_int128 jadvolni_i128_number(jadvolni_int128 halves)
 {
     jadvolni_native_int128 high = halves.high;

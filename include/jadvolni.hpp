@@ -17,14 +17,14 @@
 //     std::vector<int> values(1000);
 //     auto read = jadvolni::parse_column(text, '\n', values); // a number on each line
 //
-// Tables are read by parse_table, by parse_table_skipping, which skips bad rows, and by table_blocks, into columns of
-// integers, of fixed-point numbers and of texts; table_fault tells of a fault its line, its row and its cell, in words
-// too. Rows, columns, lines and places count from 0, and in words lines and columns from 1, as an editor counts.
+// parse_table reads tables, as do parse_table_skipping, which skips bad rows, and table_blocks, for files of any size.
+// Columns are integers, fixed-point numbers or texts. table_fault says where a fault is: its line, row and cell, in
+// words too. Rows, columns, lines and places count from 0; in words, lines and columns count from 1, as in an editor.
 //
-// T may be any integer type of C++ but bool and the types of wide characters, and, with gcc and
-// clang, a type of 128 bits. No call throws or allocates, and the header compiles without exceptions
-// too. What the calls of jadvolni.h answer is proved; what this header adds to them is tested.
-// jadvolni_columns.hpp finds the columns of a table by the names of its header.
+// T may be any integer type of C++ but bool and the wide character types, and, with gcc and clang, a 128-bit type. No
+// call throws or allocates, and the header also compiles without exceptions. What the calls of jadvolni.h answer is
+// proved; what this header adds to them is tested. jadvolni_columns.hpp finds the columns of a table by the names in
+// its header.
 #pragma once
 
 #if __cplusplus < 201703L
@@ -47,7 +47,7 @@
 
 namespace jadvolni {
 
-// The statuses of jadvolni.h, where each is described.
+// The statuses of jadvolni.h, which describes each.
 enum class status : std::uint32_t {
     ok = JADVOLNI_OK,
     overflow = JADVOLNI_OVERFLOW,
@@ -77,25 +77,25 @@ enum class status : std::uint32_t {
     unknown_field = JADVOLNI_UNKNOWN_FIELD
 };
 
-// The name of a status, as "Overflow".
+// The name of a status, such as "Overflow".
 inline const char *name(status of) noexcept
 {
     return jadvolni_status_name(static_cast<std::uint32_t>(of));
 }
 
-// What is wrong, as a sentence that says what the text or the format's field has to be.
+// What a status means, as a sentence: what is wrong with the text, or what the format's field has to be.
 inline const char *message(status of) noexcept
 {
     return jadvolni_status_text(static_cast<std::uint32_t>(of));
 }
 
-// What a text may look like. Begin with jadvolni_format_of_radix, or copy one of these, and change
-// fields. A format{} requires no digit: under it an empty text is 0.
+// Which texts are numbers. Begin with jadvolni_format_of_radix, or copy one of these, and change fields. A format{}
+// requires no digit: under it an empty text is 0.
 using format = jadvolni_format;
 inline constexpr format standard = JADVOLNI_FORMAT_STANDARD;
 inline constexpr format literal = JADVOLNI_FORMAT_LITERAL;
 
-// The formats of languages and of data, as docs/FORMATS.md has them.
+// The formats of languages and of data: docs/FORMATS.md describes them.
 namespace formats {
 inline constexpr format c = JADVOLNI_FORMAT_C;
 inline constexpr format c_decimal = JADVOLNI_FORMAT_C_DECIMAL;
@@ -126,13 +126,13 @@ inline constexpr format sql = JADVOLNI_FORMAT_SQL;
 inline constexpr format sql_2023 = JADVOLNI_FORMAT_SQL_2023;
 } // namespace formats
 
-// The first rule that the format breaks, and status::ok where it breaks none.
+// The first rule that the format breaks, or status::ok.
 [[nodiscard]] inline status format_error(const format &of) noexcept
 {
     return static_cast<status>(jadvolni_format_error(&of));
 }
 
-// What each call answers beside what it has read.
+// The status and the place that each call returns, besides what it has read.
 class outcome {
 public:
     outcome(std::uint32_t status, std::size_t place) noexcept
@@ -140,15 +140,15 @@ public:
     {
     }
 
-    // Whether nothing is wrong.
+    // Whether there is no fault.
     explicit operator bool() const noexcept { return status_ == jadvolni::status::ok; }
 
-    // What is wrong, its name, and what has to be instead.
+    // The fault: its status, its name, and its message.
     jadvolni::status status() const noexcept { return status_; }
     const char *name() const noexcept { return jadvolni::name(status_); }
     const char *message() const noexcept { return jadvolni::message(status_); }
 
-    // Where reading stopped, so that the next call goes on there; or the place of the fault.
+    // Where reading stopped, and the next call may continue; or the place of the fault.
     std::size_t place() const noexcept { return place_; }
 
 private:
@@ -156,7 +156,7 @@ private:
     jadvolni::status status_;
 };
 
-// A number, or a fault. Its place() is how many bytes were read, or that of the wrong byte.
+// A number, or a fault. Its place() is the number of bytes read, or the place of the wrong byte.
 template <class T>
 class result : public outcome {
 public:
@@ -168,7 +168,7 @@ public:
     // Whether there is a number.
     bool has_value() const noexcept { return bool(*this); }
 
-    // The number. There has to be one. Of a temporary it is a copy.
+    // The number. There must be one. From a temporary, a copy.
     const T &operator*() const & noexcept
     {
         assert(has_value());
@@ -176,10 +176,10 @@ public:
     }
     T operator*() && noexcept { return *std::as_const(*this); }
 
-    // A part of it.
+    // A member of the number.
     const T *operator->() const noexcept { return &**this; }
 
-    // The number, or the other one where there is none.
+    // The number, or `other` if there is none.
     T value_or(T other) const noexcept { return has_value() ? number_ : other; }
     std::optional<T> optional() const noexcept
     {
@@ -192,7 +192,7 @@ private:
 
 namespace detail {
 
-// The eight calls for numbers that are kept in a Kept.
+// The eight calls for numbers of the type Kept.
 template <class Kept>
 struct calls;
 
@@ -220,7 +220,7 @@ JADVOLNI_CALLS_OF_(std::int64_t, i64);
 JADVOLNI_CALLS_OF_(jadvolni_int128, i128);
 #undef JADVOLNI_CALLS_OF_
 
-// The call that reads a column into numbers of a Kept, and such an array of a table's column.
+// The call that reads a column into an array of Kept, and the member of a table's column for such an array.
 template <class Kept>
 struct column_call;
 
@@ -240,8 +240,8 @@ JADVOLNI_COLUMN_OF_(std::int32_t, i32);
 JADVOLNI_COLUMN_OF_(std::int64_t, i64);
 #undef JADVOLNI_COLUMN_OF_
 
-// Whether a temporary one may be handed over, as a std::span: it owns no numbers, so that nothing ends with
-// it, and gives numbers that may be written where it is itself constant.
+// Whether a temporary may be passed, such as a std::span: it doesn't own its numbers, so they outlive it, and they are
+// writable even if it is const.
 template <class Values>
 inline constexpr bool is_view = std::is_trivially_destructible_v<Values>
     && !std::is_const_v<std::remove_pointer_t<decltype(std::data(std::declval<const Values &>()))>>;
@@ -249,8 +249,8 @@ inline constexpr bool is_view = std::is_trivially_destructible_v<Values>
 template <class T, class... Others>
 inline constexpr bool is_one_of = (std::is_same_v<T, Others> || ...);
 
-// The type of the calls in which a T is kept: that of its width and sign. So `long` and `long long`,
-// which are two types of one width, are both read.
+// The type of the library's calls that holds a T: the one of its width and sign. So `long` and `long long`, which are
+// two types of one width, are both read.
 template <class T, class = void>
 struct kept_as {
     static_assert(std::is_integral_v<T> && !std::is_const_v<T> && !std::is_volatile_v<T>
@@ -277,7 +277,7 @@ struct kept_as<jadvolni_native_int128> {
 };
 #endif
 
-// A call on a text, and its number as a T.
+// Calls the library on a text, and makes the number a T.
 template <class T, class Call, class... Under>
 result<T> called(Call *call, std::string_view text, const Under *...under) noexcept
 {
@@ -289,7 +289,7 @@ result<T> called(Call *call, std::string_view text, const Under *...under) noexc
 template <class T>
 using calls_as = calls<typename kept_as<T>::type>;
 
-// The code of the type of the calls in which a T is kept.
+// The code of the type that holds a T.
 template <class T>
 constexpr std::uint32_t type_code() noexcept
 {
@@ -308,81 +308,81 @@ constexpr std::uint32_t type_code() noexcept
 
 } // namespace detail
 
-// The whole text as a T.
+// Reads the whole text as a T.
 template <class T>
 [[nodiscard]] result<T> parse(std::string_view text) noexcept
 {
     return detail::called<T>(detail::calls_as<T>::complete, text);
 }
 
-// The whole text as a T, under a format.
+// Reads the whole text as a T, under a format.
 template <class T>
 [[nodiscard]] result<T> parse(std::string_view text, const format &under) noexcept
 {
     return detail::called<T>(detail::calls_as<T>::complete_under, text, &under);
 }
 
-// The number in front of the text as a T. Its place() is where reading stopped; without a digit it
-// is status::empty. Where more bytes may come, an answer at the text's end isn't final.
+// Reads the number at the beginning of the text as a T. Its place() is where reading stopped; without a digit it is
+// status::empty. If more bytes may come, a result at the text's end isn't final.
 template <class T>
 [[nodiscard]] result<T> parse_front(std::string_view text) noexcept
 {
     return detail::called<T>(detail::calls_as<T>::front, text);
 }
 
-// The number in front of the text as a T, under a format.
+// Reads the number at the beginning of the text as a T, under a format.
 template <class T>
 [[nodiscard]] result<T> parse_front(std::string_view text, const format &under) noexcept
 {
     return detail::called<T>(detail::calls_as<T>::front_under, text, &under);
 }
 
-// The front of the text as a T, where no digit has to be there: such a front is mostly 0.
+// As parse_front, but digits may be missing: without them it is usually 0.
 template <class T>
 [[nodiscard]] result<T> parse_partial(std::string_view text) noexcept
 {
     return detail::called<T>(detail::calls_as<T>::partial, text);
 }
 
-// The front of the text as a T under a format, where no digit has to be there.
+// As parse_front under a format, but digits may be missing.
 template <class T>
 [[nodiscard]] result<T> parse_partial(std::string_view text, const format &under) noexcept
 {
     return detail::called<T>(detail::calls_as<T>::partial_under, text, &under);
 }
 
-// How fixed-point numbers are written: {} and what differs from it.
+// How fixed-point numbers are written: begin with {}, and set what differs.
 using fixed = jadvolni_fixed;
 
-// The fixed-point number that the whole text is, as a T in units of the last place: "12.50" with two
-// places is 1250. Nothing is rounded.
+// Reads the whole text as a fixed-point number, as a T in units of the last place: "12.50" with two places is 1250.
+// Nothing is rounded.
 template <class T>
 [[nodiscard]] result<T> parse_fixed(std::string_view text, const fixed &under) noexcept
 {
     return detail::called<T>(detail::calls_as<T>::fixed, text, &under);
 }
 
-// The fixed-point number in front of the text as a T. Its place() is where reading stopped.
+// Reads the fixed-point number at the beginning of the text as a T. Its place() is where reading stopped.
 template <class T>
 [[nodiscard]] result<T> parse_fixed_front(std::string_view text, const fixed &under) noexcept
 {
     return detail::called<T>(detail::calls_as<T>::fixed_front, text, &under);
 }
 
-// Line and column of a place in a text, both from 0: line feeds before it, and bytes behind the last.
+// Line and column of a place in a text, both from 0: the line feeds before it, and the bytes after the last of them.
 [[nodiscard]] inline jadvolni_position line_column(std::string_view text, std::size_t place) noexcept
 {
     return jadvolni_line_column(text.data(), text.size(), place);
 }
 
-// The number of a literal, and its suffix, which is a part of the text.
+// The number of a literal, and its suffix, which points into the text.
 struct literal_parts {
     jadvolni_uint128 value;
     std::string_view suffix;
 };
 
-// The literal that the text begins with, under the format of its language: "0xFFull" has the suffix
-// "ull". Its place() is behind the suffix. docs/FORMATS.md has the suffixes of each language.
+// Reads the literal at the beginning of the text, under the format of its language: "0xFFull" has the suffix "ull". Its
+// place() is after the suffix. docs/FORMATS.md lists the suffixes of each language.
 [[nodiscard]] inline result<literal_parts> parse_literal(std::string_view text,
                                                          const format &under) noexcept
 {
@@ -394,28 +394,28 @@ struct literal_parts {
     return {parts, answer};
 }
 
-// An entry of a table of suffixes: the suffix and the type that it names, which suffix_of makes.
+// An entry of a table of suffixes: a suffix and the type that it names. suffix_of makes one.
 using suffix_entry = jadvolni_suffix;
 
-// The entry of a suffix that names the integer type T: suffix_of<std::uint8_t>("u8"). It keeps the
-// suffix as a pointer, so that the bytes have to outlive it, as those of a string constant do.
+// The entry of a suffix that names the integer type T: suffix_of<std::uint8_t>("u8"). It keeps a pointer to the suffix,
+// whose bytes must outlive it, as those of a string constant do.
 template <class T>
 constexpr suffix_entry suffix_of(std::string_view text) noexcept
 {
     return {text.data(), text.size(), detail::type_code<T>(), 0};
 }
 
-// The number of a literal, its suffix, which is a part of the text, and the index of the table's
-// first entry that has it.
+// The number of a literal, its suffix, which points into the text, and the index of the suffix's first entry in the
+// table.
 struct typed_literal_parts {
     jadvolni_uint128 value;
     std::string_view suffix;
     std::size_t entry;
 };
 
-// The literal that the text begins with, judged as the type that its suffix names in a table, which
-// is an array or a container of entries: "300u8" is status::overflow at 2, "0b102"
-// status::invalid_digit at 4, and "12abc" status::unknown_suffix at 2. A literal has no minus.
+// Reads the literal at the beginning of the text, and checks it against the type that its suffix names in a table,
+// which is an array or a container of entries: "300u8" is status::overflow at 2, "0b102" status::invalid_digit at 4,
+// and "12abc" status::unknown_suffix at 2. A literal has no minus.
 template <class Table>
 [[nodiscard]] result<typed_literal_parts> parse_typed_literal(std::string_view text, const format &under,
                                                               const Table &suffixes) noexcept
@@ -430,7 +430,7 @@ template <class Table>
     return {parts, answer};
 }
 
-// What was read of a column: a count of numbers, and where reading stopped or what is wrong there.
+// What was read of a column: how many numbers, and where reading stopped; or the fault.
 class column_result : public outcome {
 public:
     column_result(std::size_t count, jadvolni_result answer) noexcept
@@ -438,17 +438,17 @@ public:
     {
     }
 
-    // How many numbers were read. At a fault that is the index of the field that has it, from 0.
+    // How many numbers were read. At a fault, this is the index of its field, from 0.
     std::size_t count() const noexcept { return count_; }
 
 private:
     std::size_t count_;
 };
 
-// The numbers of the text's fields between a separator, which may be any byte, read into an array, as
-// far as it has room. The numbers before a fault stand, and the rest of the array is as it was.
-// Of a file that is read in blocks hand each to parse_column_part. Lines with returns, blanks, missing numbers or
-// fixed-point numbers are for the parse_column of jadvolni_tables.hpp, which takes a table and a column.
+// Reads the numbers of the text's fields into an array, as long as there is room. A separator, which may be any byte,
+// is between two fields. After a fault the numbers before it are there, and the rest of the array is unchanged. For a
+// file that is read in blocks use parse_column_part. For lines with carriage returns, blanks, missing numbers or
+// fixed-point numbers use the parse_column of jadvolni_tables.hpp, which takes a table and a column.
 template <class T>
 [[nodiscard]] column_result parse_column(std::string_view text, char separator, T *values,
                                    std::size_t capacity, const format &under = standard) noexcept
@@ -462,7 +462,7 @@ template <class T>
     return {count, answer};
 }
 
-// A column into what has its numbers in a row: a std::vector, a std::array, a std::span, an array.
+// Reads a column into contiguous numbers: a std::vector, a std::array, a std::span, an array.
 template <class Values>
 [[nodiscard]] auto parse_column(std::string_view text, char separator, Values &&values,
                           const format &under = standard) noexcept
@@ -471,9 +471,9 @@ template <class Values>
     return parse_column(text, separator, std::data(values), std::size(values), under);
 }
 
-// The column of a part of a text, as a block of a file: of its whole fields, and of all of it where it
-// is the last part. Put the bytes from place() on in front of the next part: read so, all parts have
-// the numbers of the whole text. Where the array is full, go on at place() as ever.
+// Reads the column of a part of a text, such as a block of a file: its whole fields, or all of it if it is the last
+// part. Put the bytes from place() on in front of the next part: then all parts give the numbers of the whole text. If
+// the array is full, continue at place() as usual.
 template <class T>
 [[nodiscard]] column_result parse_column_part(std::string_view text, bool is_last, char separator,
                                               T *values, std::size_t capacity,
@@ -495,7 +495,7 @@ template <class Values>
 
 namespace detail {
 
-// What a byte is worth as a digit: 0 to 35, and 36 where it is none.
+// The value of a byte as a digit: 0 to 35, or 36 if it isn't one.
 inline int digit_value(char byte) noexcept
 {
     if (byte >= '0' && byte <= '9') return byte - '0';
@@ -506,11 +506,11 @@ inline int digit_value(char byte) noexcept
 
 } // namespace detail
 
-// The front of [first, last) as a T, under a format. At std::errc() `ptr` is where reading stopped,
-// and a digit was read, whatever the format requires; the zero of a prefix such as "0x" is none.
-// A number that the type hasn't is std::errc::result_out_of_range, and `ptr` is at the digit with
-// which it leaves the type. All else is std::errc::invalid_argument at `first`: a front without a
-// digit, every other fault, and an invalid format. `value` changes at std::errc() alone.
+// Reads the number at the beginning of [first, last) as a T, under a format. At std::errc() `ptr` is where reading
+// stopped, and a digit was read, whatever the format requires; the zero of a prefix such as "0x" isn't one. If the type
+// can't hold the number, the result is std::errc::result_out_of_range, with `ptr` at the digit at which it leaves the
+// type. Everything else is std::errc::invalid_argument at `first`: no digit, any other fault, an invalid format. Only
+// at std::errc() does `value` change.
 template <class T>
 std::from_chars_result from_chars(const char *first, const char *last, T &value,
                                   const format &under) noexcept
@@ -523,10 +523,9 @@ std::from_chars_result from_chars(const char *first, const char *last, T &value,
     return {first + read.place(), std::errc()};
 }
 
-// std::from_chars, with its answers: the front of [first, last) as a T in a base, with no plus. `ptr`
-// is after the digits, also where the type hasn't the number; where there are no digits it is `first`,
-// with std::errc::invalid_argument. So is a base that isn't 2 to 36, which std::from_chars leaves
-// undefined.
+// As std::from_chars, with its results: reads the number at the beginning of [first, last) as a T in a base, without a
+// plus. `ptr` is after the digits, even if the type can't hold the number; without digits it is `first`, with
+// std::errc::invalid_argument. So is a base that isn't from 2 to 36, which std::from_chars leaves undefined.
 template <class T>
 std::from_chars_result from_chars(const char *first, const char *last, T &value,
                                   int base = 10) noexcept
@@ -547,8 +546,8 @@ std::from_chars_result from_chars(const char *first, const char *last, T &value,
 
 } // namespace jadvolni
 
-// The rest of it, in an order in which each has what it stands on. Each includes this header first: so one that is
-// included alone comes here in its turn, and is empty behind that.
+// The other parts, each after those that it needs. Each includes this header first: so if one is included alone, this
+// header includes it in turn, and its own text is then empty.
 #include "jadvolni_tables.hpp"
 
 #include "jadvolni_faults.hpp"

@@ -10,7 +10,7 @@ namespace jadvolni {
 
 namespace detail {
 
-// How many line feeds a text has. Those of so many bytes are summed up in a byte, which compilers do for many at once.
+// How many line feeds a text has. It sums those of 128 bytes in one byte, so that compilers can do many at once.
 inline std::size_t line_feeds(std::string_view text) noexcept
 {
     constexpr std::size_t part_size = 128;
@@ -24,7 +24,7 @@ inline std::size_t line_feeds(std::string_view text) noexcept
     return count + static_cast<std::size_t>(std::count(text.begin(), text.end(), '\n'));
 }
 
-// The bytes of a block, and what stands before them: so many rows, line feeds and bytes.
+// The bytes of a block, and how many rows, line feeds and bytes come before them.
 struct block_text {
     std::string_view bytes;
     std::size_t rows, lines, before;
@@ -40,7 +40,7 @@ public:
     {
     }
 
-    // One of which the bytes are there too, and in which so many rows were skipped.
+    // One that also has the bytes, and in which `bad_rows` rows were skipped.
     table_block(const table_result &read, std::size_t first_row, std::size_t place, const char *trouble,
                 const detail::block_text &text, const table &how, std::size_t bad_rows) noexcept
         : table_result(read), first_row_(first_row), place_(place), trouble_(trouble), text_(text), how_(how),
@@ -51,29 +51,29 @@ public:
     // Whether nothing is wrong: then there are rows, or bad ones that were skipped.
     explicit operator bool() const noexcept { return !trouble_ && table_result::operator bool(); }
 
-    // How many rows are in the arrays, and how many came before them. So at a fault the sum is the
-    // number of its row, from 0, if none was skipped.
+    // How many rows are in the arrays, and how many came before them. So at a fault, the sum is the number of its row,
+    // from 0, if none was skipped.
     using table_result::rows;
     std::size_t first_row() const noexcept { return first_row_; }
 
-    // How many bad rows of the block were skipped, also those that had no room.
+    // How many bad rows of the block were skipped, including those that `bad` had no room for.
     std::size_t bad_rows() const noexcept { return bad_rows_; }
 
-    // The bytes of the block, in which the places of its texts count: text_of(block.bytes(), texts[row]). They are
-    // there while the block is the last one that was read.
+    // The bytes of the block, from which the places of its texts count: text_of(block.bytes(), texts[row]). They are
+    // valid until the next block is read.
     std::string_view bytes() const noexcept { return text_.bytes; }
 
-    // What is wrong: a fault with its column and its name, or, at status::ok, that a row has no room
-    // among the bytes or that reading has failed.
+    // What is wrong: a fault, with its column and its name, or, at status::ok, that the bytes have no room for a row or
+    // that reading has failed.
     using table_result::column, table_result::status, table_result::name;
     const char *message() const noexcept { return trouble_ ? trouble_ : table_result::message(); }
 
-    // Where reading stopped, or the place of the fault, in all that was read. Of a row without room it is
-    // that of its quote that isn't closed, or where it starts.
+    // Where reading stopped, or the place of the fault, from the start of all that was read. If a row has no room, it
+    // is the place of its unclosed quote, or else of its start.
     std::size_t place() const noexcept { return place_; }
 
-    // What the text tells of what is wrong, while the block is the last one that was read. Rows, lines and places count
-    // in all that was read.
+    // Where and what the fault is, with its line, row and cell; valid until the next block is read. Rows, lines and
+    // places count from the start of all that was read.
     table_fault fault() const noexcept
     {
         const table_result &in_bytes = *this;
@@ -82,7 +82,7 @@ public:
         return fault.behind(text_.rows, text_.lines, text_.before);
     }
 
-    // The same of a bad row of the block.
+    // The same for a bad row of the block.
     table_fault fault(bad_row bad) const noexcept
     {
         bad.row -= text_.rows;
@@ -98,7 +98,7 @@ private:
     std::size_t bad_rows_ = 0;
 };
 
-// The first row of a file, which is a header, with what ends it; or what hinders it.
+// The first row of a file, if that is a header, with its line end; or what prevents reading it.
 class header_row {
 public:
     header_row(std::string_view row, std::size_t place, const char *trouble) noexcept
@@ -106,13 +106,13 @@ public:
     {
     }
 
-    // Whether nothing hinders it. Where the file has no row, it is empty.
+    // Whether it was read. If the file has no row, it is empty.
     explicit operator bool() const noexcept { return !trouble_; }
 
-    // Its bytes, as long as these are there.
+    // Its bytes, valid until the first block is read.
     std::string_view operator*() const noexcept { return row_; }
 
-    // What hinders it, as of a block, and where.
+    // What prevented reading it, as for a block, and where.
     const char *message() const noexcept { return trouble_ ? trouble_ : jadvolni::message(status::ok); }
     std::size_t place() const noexcept { return place_; }
 
@@ -122,7 +122,7 @@ private:
     const char *trouble_;
 };
 
-// The rows of a file of any size, as a range of blocks of `capacity` rows at most:
+// The rows of a file of any size, as a range of blocks of at most `capacity` rows:
 //
 //     std::vector<char> bytes(1 << 20); // a row has to fit, with its line feed
 //     auto read = [&](char *to, std::size_t room) { return ::read(file, to, room); };
@@ -131,11 +131,11 @@ private:
 //         if (block) use(days, cents, block.rows());
 //         else std::cerr << block.fault().what() << '\n';
 //
-// `read` puts bytes to where it is told, and answers how many: 0 at the end, a negative number where it
-// fails, also over std::fread or a std::istream, which say nothing else at a fault than at the end. It may
-// hand out one byte at a time: no byte is looked at more often for it.
-// Nothing follows a block that is wrong. Another loop goes on where the last one stopped, and reads
-// again where that failed. Rows at fault end no loop where they are skipped:
+// `read` writes bytes to `to`, at most `room`, and returns how many: 0 at the end, and a negative number if it fails.
+// Over std::fread or a std::istream it must do so too: they return the same after a failure as at the end. It may
+// return one byte at a time: no byte is looked at more often for it. No block follows one that is wrong. Another loop
+// continues where the last one stopped, and reads again where reading failed. If bad rows are skipped, they end no
+// loop:
 //
 //     std::array<jadvolni::bad_row, 10> bad;
 //     blocks.skip_bad_rows(bad);
@@ -178,7 +178,7 @@ public:
         read_into(columns);
     }
 
-    // Without columns yet: read_into sets them, before the first block.
+    // Without columns: read_into sets them, before the first block.
     template <class Bytes>
     table_blocks(Read read, Bytes &bytes, const table &how, std::size_t capacity)
         : read_(std::move(read)), bytes_(std::data(bytes)), size_(std::size(bytes)), how_(how),
@@ -186,7 +186,7 @@ public:
     {
     }
 
-    // The columns of the blocks from here on.
+    // Sets the columns of the blocks from here on.
     template <class Columns>
     void read_into(Columns &columns) noexcept
     {
@@ -194,9 +194,9 @@ public:
         column_count_ = std::size(columns);
     }
 
-    // Skips rows at fault from here on. What is known of those of a block goes to `bad`, as far as there is room, with
-    // rows and places in all that was read. A block may have no right row then. Of the empty rows behind a bad one that
-    // are skipped, its stop is behind those that were there.
+    // Skips bad rows from here on. Those of a block are described in `bad`, as long as there is room; their rows and
+    // places count from the start of all that was read. A block may then have no good row. If empty rows after a bad
+    // one are skipped, its stop is after those that were already read.
     template <class Bad>
     void skip_bad_rows(Bad &bad) noexcept
     {
@@ -208,8 +208,8 @@ public:
     // How many bad rows were skipped so far.
     std::size_t bad_rows() const noexcept { return bad_rows_; }
 
-    // The first row of all, which is no row of the table: so jadvolni_columns.hpp finds columns by their names. Ask
-    // for it before the first block, until which it is among the bytes; again where reading has failed.
+    // The first row, as a header, which isn't a row of the table: jadvolni_columns.hpp finds columns by its names. Call
+    // this before the first block; until then its bytes are valid. If reading has failed, call it again.
     header_row header()
     {
         const char *trouble = pass_byte_order_mark();
@@ -232,7 +232,7 @@ public:
     iterator end() noexcept { return iterator(); }
 
 private:
-    // Reads the next block. False where there is none.
+    // Reads the next block. False if there is none.
     bool next()
     {
         while (!is_over_) {
@@ -255,7 +255,7 @@ private:
     // The bytes that are left.
     std::string_view left() const noexcept { return {bytes_ + first_, stop_ - first_}; }
 
-    // The rows of these, without bad ones where they are skipped.
+    // Reads their rows, without the bad ones if these are skipped.
     skipping_result read_rows() noexcept
     {
         if (!skips_)
@@ -264,16 +264,16 @@ private:
                                            bad_capacity_);
     }
 
-    // The same with what stands before them.
+    // The bytes that are left, with what comes before them.
     detail::block_text text() const noexcept { return {left(), row_ + bad_rows_, lines_, before_ + first_}; }
 
-    // Whether the bytes that are left may have a whole row: one ends there, or they are twice as many as had none.
+    // Whether the bytes that are left may contain a whole row: one ends there, or there are twice as many as had none.
     bool may_have_row() noexcept
     {
         return is_last_ || (stop_ - first_) / 2 >= tried_ || ends();
     }
 
-    // Tells what hinders a row.
+    // Makes a block that says what prevents reading a row.
     bool hindered(const char *trouble) noexcept
     {
         is_over_ = true;
@@ -281,7 +281,7 @@ private:
         return true;
     }
 
-    // Where that is: at a quote that isn't closed, or where the row starts.
+    // Where that is: at an unclosed quote, or where the row starts.
     std::size_t place_of(const char *trouble) const noexcept
     {
         return before_ + first_ + (trouble == failed() ? 0 : ends_.open_quote().value_or(0));
@@ -290,7 +290,7 @@ private:
     // Whether a row ends in the bytes that are left.
     bool ends() noexcept { return ends_.ends_in(bytes_ + first_, stop_ - first_); }
 
-    // Tells what was read from the first byte on, and goes behind its rows.
+    // Makes a block of what was read from the first byte on, and moves past its rows.
     bool tell(const skipping_result &read) noexcept
     {
         const auto here = text();
@@ -306,7 +306,7 @@ private:
         return true;
     }
 
-    // Goes behind so many bytes, which are whole rows.
+    // Moves past `size` bytes, which are whole rows.
     void pass(std::size_t size) noexcept
     {
         if (size == 0) return;
@@ -323,7 +323,7 @@ private:
         return ends_.open_quote() ? "a row has no room: a quote isn't closed" : "a row has no room";
     }
 
-    // Puts bytes there until a row ends in them. Answers what hinders it.
+    // Reads bytes until a row ends in them. Returns what prevents that.
     const char *fill_row()
     {
         while (!ends() && !is_last_)
@@ -331,7 +331,7 @@ private:
         return nullptr;
     }
 
-    // Goes behind a byte order mark in front of all. Answers what hinders it.
+    // Moves past a byte order mark at the beginning. Returns what prevents that.
     const char *pass_byte_order_mark()
     {
         while (stop_ < std::min<std::size_t>(size_, 3) && !is_last_)
@@ -341,7 +341,7 @@ private:
         return nullptr;
     }
 
-    // Puts bytes there once. Answers what hinders it.
+    // Reads bytes once. Returns what prevents that.
     const char *fill()
     {
         if (first_) std::memmove(bytes_, bytes_ + first_, stop_ - first_);
@@ -366,8 +366,8 @@ private:
     detail::row_ends ends_;
     bad_row *bad_ = nullptr;
     std::size_t bad_capacity_ = 0;
-    // The bytes that are left, how many of them had no whole row, and how many came before all of them; how many rows,
-    // bad rows and line feeds did.
+    // Where the bytes that are left start and stop, how many of them had no whole row, and how many bytes came before
+    // all of them; how many rows, bad rows and line feeds did.
     std::size_t first_ = 0, stop_ = 0, tried_ = 0, before_ = 0, row_ = 0, bad_rows_ = 0, lines_ = 0;
     bool is_last_ = false, is_over_ = false, skips_ = false;
     table_block block_{table_result({}), 0, 0, nullptr};

@@ -1,4 +1,4 @@
-// jadvolni_columns.hpp - the columns of a table by the names of its header, and texts of cells as strings, for C++17.
+// jadvolni_columns.hpp - the columns of a table by the names in its header, and texts of cells as strings, for C++17.
 //
 //     std::vector<std::uint32_t> ids(1000);
 //     std::vector<std::int64_t> cents(1000);
@@ -8,7 +8,7 @@
 //     auto read = columns.read(text, 1000);
 //     if (!read) std::cerr << columns.fault(read, text).what() << '\n'; // line 3, "cents": "7x": invalid digit at ..
 //
-// Unlike jadvolni.hpp it allocates memory for names and texts, and throws where there is none.
+// Unlike jadvolni.hpp it allocates memory for names and texts, and throws if there is none.
 #pragma once
 
 #include "jadvolni.hpp"
@@ -21,7 +21,7 @@ namespace jadvolni {
 
 namespace detail {
 
-// A text with one quote for each two.
+// A text with each doubled quote as one.
 inline std::string folded(std::string_view held)
 {
     std::string told(held.size(), 0);
@@ -29,8 +29,8 @@ inline std::string folded(std::string_view held)
     return told;
 }
 
-// Has the places of the texts in a column's first rows count from so many bytes before what was read. Missing ones
-// stay, and so do all where it has an array of numbers, which is taken first.
+// Makes the places of the texts in a column's first `rows` rows count from `bytes` bytes before what was read. Missing
+// ones are unchanged, and so are all if the column has an array of numbers, which is used first.
 inline void move_texts(const table_column &column, std::size_t rows, std::size_t bytes) noexcept
 {
     const auto &[texts, capacity] = column.text;
@@ -44,26 +44,27 @@ inline void move_texts(const table_column &column, std::size_t rows, std::size_t
 
 } // namespace detail
 
-// What a text of a cell says: its bytes with one quote for each two, as of fold_into.
+// The text of a cell: its bytes with each doubled quote as one, as by fold_into.
 [[nodiscard]] inline std::string folded(std::string_view text, const cell_text &cell)
 {
     auto held = text_of(text, cell);
     return cell.has_doubled_quotes ? detail::folded(held) : std::string(held);
 }
 
-// A column that is read, and the name that the header has for it.
+// A column to read, and its name in the header.
 struct named_column {
     std::string_view name;
     table_column column;
 };
 
-// The columns of a table, of which those are read that have names which were asked for. It is handed to parse_table or
-// to table_blocks as an array of them.
+// The columns of a table, of which those are read whose names were asked for. It is passed to parse_table or
+// table_blocks as an array of columns.
 class columns_by_header {
 public:
-    // The columns of a text that begins with a header, which is its first row, read by the table's own rules: a name may
-    // stand within quotes, with separators, line feeds and doubled quotes in it, and blanks around it are none of it where
-    // the table allows them. A byte order mark in front of it is skipped, and so are empty rows where the table skips them.
+    // The columns of a text that begins with a header, which is its first row, and follows the rules of the table: a
+    // name may be enclosed in quotes, and then contain separators, line feeds and doubled quotes; blanks around it are
+    // ignored if the table allows them. A byte order mark before it is skipped, and so are empty rows if the table
+    // skips them.
     columns_by_header(std::string_view text, const table &how, std::initializer_list<named_column> wanted)
         : columns_by_header(text, how, wanted.begin(), wanted.size())
     {
@@ -74,16 +75,16 @@ public:
     {
     }
 
-    // Whether there is a header, in which each name stands once.
+    // Whether there is a header that has each name once.
     explicit operator bool() const noexcept { return message_.empty(); }
 
-    // What is wrong. Of a name that is missing or stands twice it says which there are.
+    // What is wrong. If a name is missing or not unique, it lists the names of the header.
     const std::string &message() const noexcept { return message_; }
 
-    // The place behind the header, at which the first row begins; or that of the header's fault.
+    // The place after the header, where the first row starts; or that of the header's fault.
     std::size_t place() const noexcept { return place_; }
 
-    // The names, column by column, and that of one, counted from 0, which is empty behind the last.
+    // The names, column by column, and the name of a column, from 0; past the last it is empty.
     const std::vector<std::string> &names() const noexcept { return names_; }
     std::string_view name(std::size_t column) const noexcept
     {
@@ -94,8 +95,8 @@ public:
     table_column *data() noexcept { return columns_.data(); }
     std::size_t size() const noexcept { return columns_.size(); }
 
-    // The rows behind the header of a text, `capacity` at most, as of parse_table. Places count from the text's start,
-    // those of texts too.
+    // Reads the rows after the header, at most `capacity`, as parse_table does. Places count from the start of the
+    // text, and so do those of texts.
     [[nodiscard]] table_result read(std::string_view text, std::size_t capacity) noexcept
     {
         auto behind = text.substr(std::min(place_, text.size()));
@@ -104,7 +105,7 @@ public:
         return rows.moved(place_);
     }
 
-    // The same, but rows at fault are skipped: what is known of each goes to `bad`, as far as there is room.
+    // The same, but bad rows are skipped: each is described in `bad`, as long as there is room.
     template <class Bad>
     [[nodiscard]] skipping_result read_skipping(std::string_view text, std::size_t capacity, Bad &&bad) noexcept
     {
@@ -118,8 +119,8 @@ public:
         return rows.moved(place_);
     }
 
-    // What a text tells of a fault of its rows, as `read` has answered it, or of a bad row, with the name of its
-    // column, which lives as long as these columns.
+    // Where and what a fault is that `read` returned, or that of a bad row, with the name of its column, which is valid
+    // as long as these columns exist.
     table_fault fault(const table_result &read, std::string_view text) const noexcept
     {
         auto rows = text.substr(std::min(place_, text.size()));
@@ -141,8 +142,8 @@ private:
         choose(text, wanted, count);
     }
 
-    // Has the places of the texts that were read count from the text's start. Of a row at fault those are there that
-    // stand before its wrong cell.
+    // Makes the places of the texts that were read count from the start of the text: in a bad row, of those before its
+    // wrong cell.
     void move_texts(const table_result &read) const noexcept
     {
         if (!read && !detail::has_place(read.status())) return;
@@ -175,7 +176,7 @@ private:
         columns_.clear();
     }
 
-    // The first row of a text, with what ends it; no row that the table skips. Its place is kept.
+    // The first row of a text, with its line end, after those that the table skips. Stores its place.
     std::string_view first_row(std::string_view text)
     {
         if (text.substr(0, 3) == "\xEF\xBB\xBF") place_ = 3;
@@ -186,7 +187,7 @@ private:
         }
     }
 
-    // The names of a row, if it is one of the table, which the library judges by its own rules.
+    // The names of a row, if it is a row of the table, which the library checks by its own rules.
     bool read_names(std::string_view row)
     {
         std::vector<jadvolni_cell_place> cells(detail::put_cells(row, how_, 0, nullptr, 0));
@@ -209,7 +210,7 @@ private:
         return start == name.npos ? std::string() : name.substr(start, name.find_last_not_of(" \t") + 1 - start);
     }
 
-    // The column that alone has a name; how many there are where none has it, or more than one.
+    // The only column that has a name; how many columns there are if none has it, or more than one.
     std::size_t find(std::string_view name)
     {
         auto first = std::find(names_.begin(), names_.end(), name);
@@ -227,7 +228,7 @@ private:
         return fail(message), names_.size();
     }
 
-    // A name in quotes, cut behind 40 bytes, but within no character of UTF-8.
+    // A name in quotes, cut after 40 bytes, but not within a character of UTF-8.
     static std::string told(std::string_view name)
     {
         std::size_t size = 40;

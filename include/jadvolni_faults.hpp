@@ -1,4 +1,4 @@
-// jadvolni_faults.hpp - what a text tells of a fault of its table: the line, the row, and the cell. It is a part of
+// jadvolni_faults.hpp - where a fault of a table is in its text: the line, the row, and the cell. It is a part of
 // jadvolni.hpp.
 #include "jadvolni.hpp"
 
@@ -22,10 +22,10 @@ public:
         record_size_ = std::max<std::size_t>(record_size_, 1);
     }
 
-    // Another row begins.
+    // Begins another row.
     void begin() noexcept { seen_ = quote_ = closed_ = 0, is_open_ = false; }
 
-    // Whether the row ends in its first bytes, of which those that it was asked before are the front.
+    // Whether the row ends in its first `size` bytes, which begin with those of the calls before.
     bool ends_in(const char *row, std::size_t size) noexcept
     {
         if (record_size_) return size >= record_size_;
@@ -36,7 +36,7 @@ public:
         return false;
     }
 
-    // Where the row stops, that ends in what was seen.
+    // Where the row stops, if it ends in what was seen.
     std::size_t stop() const noexcept { return record_size_ ? record_size_ : seen_ + 1; }
 
     // The place in the row of a quote that isn't closed in what was seen, if there is one.
@@ -46,7 +46,7 @@ public:
     }
 
 private:
-    // A quote directly behind one that closes makes with it one that is doubled, and the cell goes on.
+    // A quote directly after a closing one makes it a doubled quote, and the cell continues.
     void see_quote() noexcept
     {
         if (is_open_) closed_ = seen_ + 1;
@@ -54,26 +54,26 @@ private:
         is_open_ = !is_open_;
     }
 
-    // The size of a record, or 0; how many bytes were seen, the last quote that opens, and the place behind the
-    // last one that closes.
+    // The size of a record, or 0; how many bytes were seen, the place of the last opening quote, and the place after
+    // the last closing one.
     std::size_t record_size_ = 0, seen_ = 0, quote_ = 0, closed_ = 0;
     bool has_quotes_, is_open_ = false;
 };
 
-// The first row of a text, with what ends it; all of the text where nothing does.
+// The first row of a text, with its line end; all of the text if no row ends there.
 inline std::string_view first_row(std::string_view text, const table &how) noexcept
 {
     row_ends ends(how);
     return ends.ends_in(text.data(), text.size()) ? text.substr(0, ends.stop()) : text;
 }
 
-// Whether a row, with what ends it, is an empty one that its table skips.
+// Whether a row, with its line end, is an empty one that its table skips.
 inline bool is_skipped(std::string_view row, const table &how) noexcept
 {
     return !row.empty() && jadvolni_row_place(row.data(), row.size(), &how, 0).start == row.size();
 }
 
-// How many cells a row has. Where those from a column on are goes to an array, as far as it has room.
+// How many cells a row has. Writes to an array where those from the column `first` on are, as long as there is room.
 inline std::size_t put_cells(std::string_view row, const table &how, std::size_t first, jadvolni_cell_place *cells,
                              std::size_t room) noexcept
 {
@@ -86,7 +86,7 @@ inline std::string_view cell_of(std::string_view row, jadvolni_cell_place place)
     return row.substr(place.start, place.size);
 }
 
-// Text of no more bytes than there is room for, as C has it.
+// A C string with a fixed amount of room; what doesn't fit is left out.
 template <std::size_t Room>
 class short_text {
 public:
@@ -108,7 +108,7 @@ public:
         put(static_cast<char>('0' + number % 10));
     }
 
-    // A text within quotes, with escapes for these, for backslashes and for bytes that can't be printed.
+    // A text in quotes, with escapes for quotes, backslashes and bytes that can't be printed.
     void put_quoted(std::string_view text, bool is_cut) noexcept
     {
         put('"');
@@ -137,7 +137,7 @@ private:
     std::size_t size_ = 0;
 };
 
-// The front of a text of so many bytes at most, cut within no character of UTF-8.
+// At most the first `most` bytes of a text, not cut within a character of UTF-8.
 inline std::string_view front_of(std::string_view text, std::size_t most) noexcept
 {
     if (text.size() <= most) return text;
@@ -148,23 +148,23 @@ inline std::string_view front_of(std::string_view text, std::size_t most) noexce
 
 } // namespace detail
 
-// A fault of a table with what its text tells: in which line it is, where its row is, and what its cell has. It says so
-// in words too, and outlives the text:
+// A fault of a table, and where it is in the text: its line, its row, and its cell. It says so in words too, and
+// outlives the text:
 //
 //     auto read = jadvolni::parse_table(text, ledger, 1000, columns);
 //     if (!read) std::cerr << path << ", " << jadvolni::table_fault(read, text, ledger).what() << '\n';
 //     // bank.csv, line 5, column 3: "12x": invalid digit at byte 2 of the cell
 //
-// Rows, columns, lines and places count from 0. In words lines and columns count from 1, as an editor does.
+// Rows, columns, lines and places count from 0. In words, lines and columns count from 1, as in an editor.
 class table_fault : public outcome {
 public:
-    // That of what was read of a text, in which its rows and places count. The time is that of a walk over the text.
+    // The fault of a result, of the text that was read. It takes the time to scan the text.
     table_fault(const table_result &read, std::string_view text, const table &how) noexcept
         : table_fault(read, jadvolni_row_place(text.data(), text.size(), &how, read.rows()).start, text, how)
     {
     }
 
-    // The same, where the row starts at a place that is known.
+    // The same if it is known where the row starts.
     table_fault(const table_result &read, std::size_t row_start, std::string_view text, const table &how) noexcept
         : outcome(read), message_(read.message()), row_(read.rows()), column_(read.column())
     {
@@ -172,7 +172,7 @@ public:
         put_words();
     }
 
-    // That of a bad row of a text, in which its places count.
+    // The fault of a bad row, of the text that was read.
     table_fault(const bad_row &bad, std::string_view text, const table &how) noexcept
         : outcome(bad.status, bad.place), message_(jadvolni_status_text(bad.status)), row_(bad.row), column_(bad.column)
     {
@@ -180,8 +180,8 @@ public:
         put_words();
     }
 
-    // What hinders a row that starts at a place of a text, and where: at status::ok, that it has no room, or that
-    // reading has failed.
+    // What prevents reading a row that starts at a place of a text, and where: at status::ok, that it has no room, or
+    // that reading has failed.
     table_fault(const char *trouble, std::size_t place, std::size_t row_start, std::string_view text,
                 const table &how) noexcept
         : outcome(JADVOLNI_OK, place), message_(trouble), is_trouble_(true)
@@ -190,36 +190,36 @@ public:
         put_words();
     }
 
-    // Whether nothing is wrong.
+    // Whether there is no fault.
     explicit operator bool() const noexcept { return !is_trouble_ && outcome::operator bool(); }
 
-    // The row of the fault, and its column: so many cells of the row are right. A header is no row.
+    // The row of the fault, and its column: as many cells of the row are good. A header isn't a row.
     std::size_t row() const noexcept { return row_; }
     std::size_t column() const noexcept { return column_; }
 
-    // The line of its place: so many line feeds stand before that.
+    // The line of its place: the number of line feeds before it.
     std::size_t line() const noexcept { return line_; }
 
-    // Where the row starts, and the place behind it and what ends it.
+    // Where the row starts, and the place after its line end.
     std::size_t row_start() const noexcept { return row_start_; }
     std::size_t row_stop() const noexcept { return row_stop_; }
 
-    // The first 40 bytes of the cell as it stands in the text, with its quotes and blanks. It is empty too where a row
-    // has too few cells or lacks its return.
+    // The first 40 bytes of the cell as they are in the text, with quotes and blanks. It is also empty if a row has too
+    // few cells or lacks its carriage return.
     std::string_view text() const & noexcept { return {cell_, cell_size_}; }
     std::string_view text() const && = delete;
 
-    // The name of the column, where it was told.
+    // The name of the column, if it is known.
     std::string_view name() const noexcept { return name_; }
 
     // What is wrong, without its place: "invalid digit".
     const char *message() const noexcept { return message_; }
 
-    // The fault in words: `line 5, "amount": "12,5x": invalid digit at byte 4 of the cell`. Of records it tells the
-    // number of the row. They live as long as this.
+    // The fault in words: `line 5, "amount": "12,5x": invalid digit at byte 4 of the cell`. For records it has the
+    // number of the row. The words are valid as long as this object.
     const char *what() const noexcept { return words_.c_str(); }
 
-    // The same fault, in a column of a name, which has to outlive it. An empty one is none.
+    // The same fault with the name of its column, which must outlive it. An empty name means none.
     table_fault named(std::string_view name) const noexcept
     {
         auto fault = *this;
@@ -228,8 +228,8 @@ public:
         return fault;
     }
 
-    // This fault of a part of a text as one of the text, in which so many rows, line feeds and bytes stand before the
-    // part.
+    // The fault of a part of a text, as one of the whole text, which has `rows` rows, `lines` line feeds and `bytes`
+    // bytes before the part.
     table_fault behind(std::size_t rows, std::size_t lines, std::size_t bytes) const noexcept
     {
         auto fault = *this;
@@ -243,7 +243,7 @@ public:
 private:
     bool has_place() const noexcept { return detail::has_place(status()); }
 
-    // Takes down what the text tells of the row that starts at a place of it.
+    // Stores the row, which starts at a place of the text.
     void put_row(std::size_t start, std::string_view text, const table &how) noexcept
     {
         start = std::min(start, text.size());
@@ -256,7 +256,7 @@ private:
             put_cell(row, how);
     }
 
-    // Takes down the cell of a row that the fault is in.
+    // Stores the cell of a row that has the fault.
     void put_cell(std::string_view row, const table &how) noexcept
     {
         jadvolni_cell_place found{};
@@ -297,7 +297,7 @@ private:
         }
     }
 
-    // What refuses a column names it, and so it is told from what refuses the table.
+    // A message about a column begins with it, which distinguishes it from one about the table.
     void put_words_without_place() noexcept
     {
         const std::string_view message = message_;

@@ -6,22 +6,22 @@
 
 namespace jadvolni {
 
-// How a table is written. Begin with table{}, and set what differs. Its widths have to outlive it.
+// How a table is written. Begin with table{}, and set what differs. Its widths must outlive it.
 using table = jadvolni_table;
 
-// A column of a table: how its cells are read, and where their numbers or texts go. table_column{} isn't read.
+// A column of a table: how its cells are read, and where their numbers or texts are stored. table_column{} isn't read.
 using table_column = jadvolni_table_column;
 
-// Where a text stands that a cell holds: text_of has its bytes.
+// Where the text of a cell is: text_of returns its bytes.
 using cell_text = jadvolni_cell_text;
 
 namespace detail {
 
-// Whether a column may be read into what is handed over, which has to outlive it.
+// Whether a column may be read into what is passed, which must outlive it.
 template <class Values>
 inline constexpr bool outlives = std::is_lvalue_reference_v<Values> || is_view<Values>;
 
-// A column whose texts' places go to an array.
+// A column that stores where its texts are in an array.
 inline table_column column_of_texts(cell_text *texts, std::size_t capacity) noexcept
 {
     table_column column{};
@@ -31,8 +31,8 @@ inline table_column column_of_texts(cell_text *texts, std::size_t capacity) noex
 
 } // namespace detail
 
-// A column whose numbers go to an array. One without room, as of a std::vector that was only reserved, is
-// status::invalid_table where rows are asked for.
+// A column that stores its numbers in an array. If the array has no room, like a std::vector that was only reserved,
+// and rows are asked for, the result is status::invalid_table.
 template <class T, class = std::enable_if_t<!std::is_same_v<T, cell_text>>>
 [[nodiscard]] table_column column_into(T *numbers, std::size_t capacity,
                                        const format &under = standard) noexcept
@@ -47,8 +47,9 @@ template <class T, class = std::enable_if_t<!std::is_same_v<T, cell_text>>>
     return column;
 }
 
-// A column whose fixed-point numbers, as amounts, go to an array in units of the last place: "12.50" with two places is
-// 1250. Without places they are integers in the format of the integer part, whose radix then isn't 0.
+// A column that stores its fixed-point numbers, such as amounts, in an array, in units of the last place: "12.50" with
+// two places is 1250. With 0 places they are integers in the format of the integer part, whose radix must then not be
+// 0.
 template <class T, class = std::enable_if_t<!std::is_same_v<T, cell_text>>>
 [[nodiscard]] table_column column_into(T *numbers, std::size_t capacity, const fixed &under) noexcept
 {
@@ -60,14 +61,14 @@ template <class T, class = std::enable_if_t<!std::is_same_v<T, cell_text>>>
     return column;
 }
 
-// A column of texts, of which it goes to an array where each stands. A cell may hold any bytes, and doubled quotes
-// within its own.
+// A column of texts, which stores in an array where each is. A cell may hold any bytes, and doubled quotes within its
+// own.
 [[nodiscard]] inline table_column column_into(cell_text *texts, std::size_t capacity) noexcept
 {
     return detail::column_of_texts(texts, capacity);
 }
 
-// A column into what has its numbers in a row: a std::vector, a std::array, a std::span, an array.
+// A column that is stored in contiguous numbers: a std::vector, a std::array, a std::span, an array.
 template <class Values>
 [[nodiscard]] auto column_into(Values &&values, const format &under = standard) noexcept
     -> decltype(column_into(std::data(values), std::size(values), under))
@@ -76,7 +77,7 @@ template <class Values>
     return column_into(std::data(values), std::size(values), under);
 }
 
-// The same of fixed-point numbers.
+// The same for fixed-point numbers.
 template <class Values>
 [[nodiscard]] auto column_into(Values &&values, const fixed &under) noexcept
     -> decltype(column_into(std::data(values), std::size(values), under))
@@ -85,7 +86,7 @@ template <class Values>
     return column_into(std::data(values), std::size(values), under);
 }
 
-// The same of texts.
+// The same for texts.
 template <class Texts>
 [[nodiscard]] auto column_into(Texts &&texts) noexcept
     -> decltype(detail::column_of_texts(std::data(texts), std::size(texts)))
@@ -94,17 +95,17 @@ template <class Texts>
     return column_into(std::data(texts), std::size(texts));
 }
 
-// The bytes of a text, with quotes doubled as they stand there. It takes what the table was read from: where other
-// bytes have no such place, there are none.
+// The bytes of a cell's text, in which quotes are still doubled. `text` is what the table was read from; if it doesn't
+// have the place, the result is empty.
 [[nodiscard]] inline std::string_view text_of(std::string_view text, const cell_text &cell) noexcept
 {
     const bool is_there = cell.start <= text.size() && cell.size <= text.size() - cell.start;
     return is_there ? text.substr(cell.start, cell.size) : std::string_view();
 }
 
-// The same with one quote for each two. Where none is doubled it is what text_of gives, and else it is written to the
-// front of `room`, for which as many bytes as the text has are enough. Where they are too few, there is no answer, and
-// nothing is written. jadvolni_columns.hpp has `folded`, which makes a std::string.
+// The same with each doubled quote as one. If there are none, the result is that of text_of; otherwise it is written to
+// the beginning of `room`, where as many bytes as the text has are enough. If there are too few, the result is
+// std::nullopt, and nothing is written. The `folded` of jadvolni_columns.hpp makes a std::string.
 template <class Room>
 [[nodiscard]] std::optional<std::string_view> fold_into(std::string_view text, const cell_text &cell,
                                                         Room &room) noexcept
@@ -116,7 +117,7 @@ template <class Room>
     return std::string_view(std::data(room), size);
 }
 
-// Whether a column has a number or a text in a row, by the bits that its `present` is set to: `present = {data, size}`.
+// Whether a column has a number or a text in a row, by the bits in its `present`: `present = {data, size}`.
 template <class Bits>
 [[nodiscard]] bool is_present(const Bits &bits, std::size_t row) noexcept
 {
@@ -136,7 +137,7 @@ inline bool has_place(status of) noexcept
 
 } // namespace detail
 
-// What was read of a table: a count of rows, and where reading stopped or what is wrong there.
+// What was read of a table: how many rows, and where reading stopped; or the fault.
 class table_result : public outcome {
 public:
     explicit table_result(jadvolni_table_result answer, const char *message = nullptr) noexcept
@@ -144,20 +145,20 @@ public:
     {
     }
 
-    // What is wrong. Where the table or a column is refused, it says what that has to be.
+    // What is wrong. If the table or a column was refused, it says what that has to be.
     const char *message() const noexcept { return message_ ? message_ : outcome::message(); }
 
-    // The same where the text stands so many bytes further on.
+    // The same result if the text starts `bytes` bytes further on.
     table_result moved(std::size_t bytes) const noexcept
     {
         auto place = *this || detail::has_place(status()) ? this->place() + bytes : this->place();
         return table_result({static_cast<std::uint32_t>(status()), column_, rows_, place}, message_);
     }
 
-    // How many rows were read. At a fault of the text that is the number of its row, from 0.
+    // How many rows were read. At a fault of the text, this is the number of its row, from 0.
     std::size_t rows() const noexcept { return rows_; }
 
-    // The column of a fault, from 0: so many cells of the row were read.
+    // The column of a fault, from 0: as many cells of the row were read.
     std::size_t column() const noexcept { return column_; }
 
 private:
@@ -167,7 +168,7 @@ private:
 
 namespace detail {
 
-// Bytes from a place to before another.
+// The bytes from one address up to another.
 struct byte_span {
     std::uintptr_t start = 0, stop = 0;
 
@@ -178,7 +179,8 @@ struct byte_span {
     }
 };
 
-// The bytes that a column writes of so many rows: its numbers or texts, and its bits. One that isn't read writes none.
+// The bytes that a column writes for `rows` rows: its numbers or texts, and its bits. A column that isn't read writes
+// none.
 struct written {
     byte_span items, bits;
 
@@ -198,7 +200,7 @@ struct written {
         bits.stop = bits.start + std::min(column.present.size, rows / 8 + (rows % 8 != 0));
     }
 
-    // Whether a byte is written for two columns.
+    // Whether both columns write to the same byte.
     bool meets(const written &other) const noexcept
     {
         return items.meets(other.items) || items.meets(other.bits) || bits.meets(other.items)
@@ -206,7 +208,8 @@ struct written {
     }
 };
 
-// The first column that writes where itself or one before it does, or how many there are.
+// The first column that writes to the same bytes as one before it, or twice itself; if there is none, how many there
+// are.
 inline std::size_t overlapping(const table_column *columns, std::size_t count, std::size_t rows) noexcept
 {
     for (std::size_t index = 0; index < count; ++index) {
@@ -221,7 +224,7 @@ inline std::size_t overlapping(const table_column *columns, std::size_t count, s
 
 inline constexpr const char *overlaps = "the column's array overlaps with that of another column, or with bits";
 
-// The rows of a part of a text. Columns that write to one place are refused, which the library can't see.
+// Reads the rows of a part of a text. Refuses columns that write to the same bytes, which the library can't see.
 inline table_result read_table(std::string_view text, bool is_last, const table &how, std::size_t capacity,
                                table_column *columns, std::size_t count) noexcept
 {
@@ -234,9 +237,9 @@ inline table_result read_table(std::string_view text, bool is_last, const table 
 
 } // namespace detail
 
-// The rows of a part of a text, as a block of a file: its whole ones, and all where it is the last part;
-// each column into an array of its own. Put the bytes from place() on in front of the next part. Where
-// `capacity` rows were read, go on at place() first.
+// Reads the rows of a part of a text, such as a block of a file, each column into an array of its own: the whole rows,
+// or all if it is the last part. Put the bytes from place() on in front of the next part. If `capacity` rows were read,
+// first continue at place().
 template <class Columns>
 [[nodiscard]] table_result parse_table_part(std::string_view text, bool is_last, const table &how,
                                             std::size_t capacity, Columns &&columns) noexcept
@@ -244,8 +247,8 @@ template <class Columns>
     return detail::read_table(text, is_last, how, capacity, std::data(columns), std::size(columns));
 }
 
-// The rows of a text, `capacity` at most. The numbers of all cells before a wrong one stand, and the
-// rest of the arrays is as it was.
+// Reads the rows of a text, at most `capacity`. After a fault the numbers of all cells before the wrong one are there,
+// and the rest of each array is unchanged.
 template <class Columns>
 [[nodiscard]] table_result parse_table(std::string_view text, const table &how, std::size_t capacity,
                                        Columns &&columns) noexcept
@@ -268,9 +271,9 @@ inline std::size_t room_of(const table_column &column) noexcept
 
 } // namespace detail
 
-// The numbers of a text's lines as the one column of a table, as far as its array and its bits have room: with the
-// returns, the blanks and the missing numbers of the table, and the format or the fixed-point numbers of the column.
-// With '\n' as the table's separator no byte parts cells. The numbers before a fault stand.
+// Reads the numbers of a text's lines, as the only column of a table, as long as its array and its bits have room. The
+// table says whether there are carriage returns, blanks and missing numbers, and the column has the format, or that of
+// fixed-point numbers. If the table's separator is '\n', each line is one cell. The numbers before a fault are there.
 //
 //     jadvolni::table lines{};
 //     lines.separator = '\n', lines.allows_returns = 1;
@@ -283,11 +286,11 @@ inline std::size_t room_of(const table_column &column) noexcept
     return {read.rows(), {static_cast<std::uint32_t>(read.status()), read.place()}};
 }
 
-// A row at fault: its number, where its fault is and what, and where the row starts and stops.
+// A bad row: its number, its fault and where that is, and where the row starts and stops.
 using bad_row = jadvolni_bad_row;
 
-// What was read of a table whose bad rows were skipped: how many rows are right and how many bad, and where
-// reading stopped; or what is wrong with the table or a column.
+// What was read of a table whose bad rows were skipped: how many rows were good and how many bad, and where reading
+// stopped; or what is wrong with the table or a column.
 class skipping_result : public table_result {
 public:
     explicit skipping_result(jadvolni_skipping_result answer, const char *message = nullptr) noexcept
@@ -295,16 +298,16 @@ public:
     {
     }
 
-    // The rows of a table of which so many others were skipped.
+    // A result of rows for which `bad_rows` others were skipped.
     skipping_result(const table_result &rows, std::size_t bad_rows) noexcept
         : table_result(rows), bad_rows_(bad_rows)
     {
     }
 
-    // How many bad rows were skipped, also those that had no room.
+    // How many bad rows were skipped, including those that `bad` had no room for.
     std::size_t bad_rows() const noexcept { return bad_rows_; }
 
-    // The same where the text stands so many bytes further on.
+    // The same result if the text starts `bytes` bytes further on.
     skipping_result moved(std::size_t bytes) const noexcept { return {table_result::moved(bytes), bad_rows_}; }
 
 private:
@@ -313,7 +316,7 @@ private:
 
 namespace detail {
 
-// As read_table, but rows at fault are skipped.
+// As read_table, but bad rows are skipped.
 inline skipping_result read_table_skipping(std::string_view text, bool is_last, const table &how,
                                            std::size_t capacity, table_column *columns, std::size_t count,
                                            bad_row *bad, std::size_t bad_capacity) noexcept
@@ -329,8 +332,8 @@ inline skipping_result read_table_skipping(std::string_view text, bool is_last, 
 
 } // namespace detail
 
-// As parse_table_part, but rows at fault are skipped: what is known of each goes to `bad`, as far as there is
-// room, and the right ones are stored one behind another.
+// As parse_table_part, but bad rows are skipped: each is described in `bad`, as long as there is room, and the good
+// ones are stored without gaps.
 template <class Columns, class Bad>
 [[nodiscard]] skipping_result parse_table_part_skipping(std::string_view text, bool is_last,
                                                         const table &how, std::size_t capacity,
@@ -340,7 +343,7 @@ template <class Columns, class Bad>
                                        std::data(bad), std::size(bad));
 }
 
-// The right rows of a text, `capacity` at most.
+// Reads the good rows of a text, at most `capacity`.
 template <class Columns, class Bad>
 [[nodiscard]] skipping_result parse_table_skipping(std::string_view text, const table &how,
                                                    std::size_t capacity, Columns &&columns,
@@ -349,7 +352,7 @@ template <class Columns, class Bad>
     return parse_table_part_skipping(text, true, how, capacity, columns, bad);
 }
 
-// This row at fault of a part of a text as one of the text, in which so many rows and bytes stand before the part.
+// A bad row of a part of a text, as one of the whole text, which has `rows` rows and `bytes` bytes before the part.
 [[nodiscard]] inline bad_row behind(bad_row bad, std::size_t rows, std::size_t bytes) noexcept
 {
     bad.row += rows;
@@ -357,8 +360,8 @@ template <class Columns, class Bad>
     return bad;
 }
 
-// The bytes of the row of a number, from 0, with what ends it and the empty rows behind it that are skipped: none
-// where the text has no such row, or the table can't be read.
+// The bytes of the row with a number, from 0, with its line end and the empty rows after it that are skipped. Empty if
+// the text has no such row, or the table is invalid.
 [[nodiscard]] inline std::string_view row_of(std::string_view text, const table &how,
                                              std::size_t row) noexcept
 {

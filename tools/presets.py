@@ -13,7 +13,7 @@ from row_data import BYTES, Group, groups_of
 
 LANGUAGES = os.path.join("tools", "languages.txt")
 BEGIN_C = "/* The formats of languages and of data, by make docs from tools/languages.txt. */\n"
-END_C = "\n/* JADVOLNI_UNKNOWN_FIELD where"
+END_C = "\n/* Returns JADVOLNI_UNKNOWN_FIELD if"
 BEGIN_CPP, END_CPP = "namespace formats {\n", "} // namespace formats\n"
 RUST = "bindings/rust/jadvolni/src/languages.rs"
 PYTHON = "bindings/python/src/jadvolni/formats.py"

@@ -3,7 +3,7 @@
 import type { Format } from "./format.js";
 import type { AmountOptions, Byte, FormatOption, Text } from "./numbers.js";
 
-/** The arrays that columns are read into, by the types of their numbers. */
+/** The arrays for columns, by the types of their numbers. */
 export interface Columns {
   u8: Uint8Array;
   u16: Uint16Array;
@@ -15,35 +15,35 @@ export interface Columns {
   i64: BigInt64Array;
 }
 
-/** The numbers of a column that may miss some: those are 0, and `present` has 0 for their rows, else 1. */
+/** The numbers of a column that may miss some. A missing one is 0, and has 0 in `present`; others have 1. */
 export interface Sparse<A> {
   numbers: A;
   present: Uint8Array;
 }
 
-/** What a column is told by its name. All but separator and format need fields that are lines. */
+/** The named options of a column. All but separator and format require that the fields are lines. */
 export interface ColumnOptions extends FormatOption, AmountOptions {
   /** The byte between two fields: by default a line feed. */
   separator?: Byte;
-  /** A carriage return stands before each line feed. */
+  /** Each line feed has a carriage return before it. */
   has_returns?: boolean;
-  /** A carriage return may stand before a line feed. */
+  /** A line feed may have a carriage return before it. */
   allows_returns?: boolean;
-  /** Spaces and tabs may stand around a number, or around what stands for a missing one. */
+  /** Spaces and tabs may surround a number, or what stands for a missing one. */
   allows_blanks?: boolean;
   /** Numbers may be missing. */
   may_miss?: boolean;
-  /** What stands for a missing number, where some may be missing: by default an empty field. */
+  /** What stands for a missing number, if some may be missing: by default an empty field. */
   missing?: Text;
 }
 
 /**
- * The numbers of a text's fields. A field is the bytes up to the separator, by default a line feed;
- * a last separator starts no further field. The text may be of any length; a field of more than
- * `LONGEST_FIELD` bytes is a `RangeError`. Careful: the end of a text ends its last field. So cut a
- * file only behind separators.
+ * Returns the numbers of a text's fields. A field is the bytes up to the separator, by default a line
+ * feed; a separator at the end starts no further field. The text may be of any length; a field of more
+ * than `LONGEST_FIELD` bytes is a `RangeError`. Careful: the end of a text ends its last field. So cut
+ * a file only after separators.
  *
- * Throws `ParseError` for the first field that is no number of the type under the format, with its
+ * Throws `ParseError` for the first field that isn't a number of the type under the format, with its
  * index.
  */
 export function parseColumn<T extends keyof Columns>(
@@ -58,7 +58,7 @@ export function parseColumn<T extends keyof Columns>(
   options: ColumnOptions & { may_miss?: false },
 ): Columns[T];
 
-/** The same of numbers of which some may be missing. */
+/** The same for numbers of which some may be missing. */
 export function parseColumn<T extends keyof Columns>(
   text: Text,
   type: T,

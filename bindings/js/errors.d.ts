@@ -10,14 +10,14 @@ export type TextFault =
   | "InvalidPositiveSign"
   | "InvalidLeadingZeros";
 
-/** What else may be wrong with a table: the place is where the row ends, where the first cell too many
- * starts, the line feed without a return, or the quote. */
+/** What else may be wrong with a table. The place is where the row ends, where the first cell too many
+ * starts, that of the line feed without a carriage return, or that of the quote. */
 export type TableFault = "TooFewCells" | "TooManyCells" | "MissingReturn" | "MisplacedQuote";
 
-/** What else may be wrong with a literal whose suffix names its type: the place is where the suffix begins. */
+/** What else may be wrong with a literal that has a type: the place is where its suffix begins. */
 export type LiteralFault = "UnknownSuffix";
 
-/** Which rule a format may break, or a description of amounts. */
+/** The rule that a format, or a description of amounts, breaks. */
 export type FormatFault =
   | "InvalidMantissaRadix"
   | "InvalidDigitSeparator"
@@ -31,53 +31,53 @@ export type FormatFault =
   | "InvalidPlaces";
 
 /**
- * What the errors below are. One that is none of these is thrown as the package is loaded: it says
- * which engines have 64-bit WebAssembly memory, where this one has none, or why `jadvolni.wasm`
- * can't be loaded.
+ * The base of the errors below. One of this class itself is thrown when the package can't be loaded: it
+ * says which engines have 64-bit WebAssembly memory, if this one doesn't, or why `jadvolni.wasm` can't
+ * be loaded.
  */
 export class JadvolniError extends Error {}
 
 /**
- * A text is no number of its type, or none under its format.
+ * A text isn't a number of its type under its format.
  *
- * What it has counts from 0, over the whole text: a header is no row, but its lines and bytes count. The
- * message of a table counts lines, rows and columns from 1, as an editor does:
+ * Its properties count from 0, over the whole text: a header isn't a row, but its lines and bytes count.
+ * The message of a table counts lines, rows and columns from 1, as an editor does:
  * `line 3, "cents": "12x5": invalid digit at byte 2 of the cell`.
  */
 export class ParseError extends JadvolniError {
   /** What is wrong. */
   readonly kind: TextFault | LiteralFault | TableFault | "OutOfBounds";
   /**
-   * At which byte; the text's length where something is missing at its end. It is also the index into a
-   * string that has ASCII alone before it.
+   * The offset of the wrong byte; the text's length if something is missing at its end. If a string has
+   * only ASCII before it, it is also the index into that.
    */
   readonly place: number;
-  /** In a column the index of the first field that is no number, and where it starts; else undefined. */
+  /** In a column, the index of the first bad field, and where it starts; otherwise undefined. */
   readonly field: number | undefined;
   readonly start: number | undefined;
-  /** In a table the number of the row, among right and bad ones; and the column. Else undefined. */
+  /** In a table, the number of the row, among good and bad ones, and the column; otherwise undefined. */
   readonly row: number | undefined;
   readonly column: number | undefined;
-  /** The name of that column, where the table has a header; else undefined. */
+  /** The name of that column, if the table has a header; otherwise undefined. */
   readonly columnName: string | undefined;
-  /** In a table how many line feeds stand before the place; else undefined. */
+  /** In a table, the number of line feeds before the place; otherwise undefined. */
   readonly line: number | undefined;
-  /** In a table where the row starts, and where what ends it does; else undefined. */
+  /** In a table, where the row starts, and the place after its line end; otherwise undefined. */
   readonly rowStart: number | undefined;
   readonly rowStop: number | undefined;
-  /** In a table the first 40 bytes of the wrong cell, with its quotes and blanks, and no part of a
-   * character; "" where a cell or a return is missing. Else undefined. */
+  /** In a table, the first 40 bytes of the wrong cell, with its quotes and blanks, but no part of a
+   * character; "" if a cell or a carriage return is missing. Otherwise undefined. */
   readonly text: string | undefined;
-  /** Of a number that is out of bounds these; the place is 0. Else undefined. */
+  /** The bounds, if the number is out of bounds; the place is then 0. Otherwise undefined. */
   readonly min: number | bigint | undefined;
   readonly max: number | bigint | undefined;
 }
 
-/** Columns aren't found by their names. */
+/** Columns can't be found by their names. */
 export class HeaderError extends JadvolniError {
-  /** What is wrong: the table has no row, no column has a name, or more than one has. */
+  /** What is wrong: the table has no row, or a name belongs to no column, or to more than one. */
   readonly kind: "NoHeader" | "Missing" | "Doubled";
-  /** The names that there are. */
+  /** The names in the header. */
   readonly names: string[];
 }
 

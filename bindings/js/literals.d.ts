@@ -3,7 +3,7 @@
 import type { Format } from "./format.js";
 import type { FormatOption, NumberOf, NumberType, Text } from "./numbers.js";
 
-/** A literal: its value, its suffix, as the `ull` of `0xFFull`, and the place where both stop. */
+/** A literal: its value, its suffix, such as the `ull` of `0xFFull`, and the place after both. */
 export interface Literal {
   value: bigint;
   suffix: string;
@@ -11,9 +11,9 @@ export interface Literal {
 }
 
 /**
- * The literal that a text begins with, and its suffix: all ASCII letters, digits 0 to 9 and "_"
- * behind its number, which is read as `parseFront` reads a u128. Which suffixes a language has is
- * for the caller to ask: so does `parseTypedLiteral`.
+ * Returns the literal at the beginning of a text, with its suffix: all ASCII letters, digits 0 to 9 and
+ * "_" that follow the number, which is read as `parseFront` reads a u128. The caller decides which
+ * suffixes are valid; `parseTypedLiteral` takes a list of them.
  */
 export function parseLiteral(text: Text, options?: Format | FormatOption): Literal;
 
@@ -23,13 +23,13 @@ export type TypedLiteral<T extends NumberType = NumberType> = {
 }[T];
 
 /**
- * The literal that a text begins with, as `parseLiteral` reads it, judged as the type that its suffix names:
+ * Returns the literal at the beginning of a text, as `parseLiteral` does, as the type that its suffix names:
  * `parseTypedLiteral("1_000i64;", { "": "i32", u8: "u8", i64: "i64" }, formats.RUST)` is 1000n of the type "i64",
- * and stops at 8. A suffix is matched exactly. The empty one names the type of a literal without one.
+ * and stops at 8. A suffix is matched exactly. The empty one is for literals without a suffix.
  *
- * Throws `ParseError` of the kind "InvalidDigit" at a digit 0 to 9 directly behind the number, as in "0b102",
- * "UnknownSuffix" where a suffix begins that isn't there, as in "12abc", and "Overflow" at the digit with which the
- * number leaves its type, as in "300u8". A literal has no minus: "-128i8" is "Empty" at 0.
+ * Throws `ParseError`: of the kind "InvalidDigit" at a digit 0 to 9 directly after the number, as in "0b102",
+ * "UnknownSuffix" where a suffix begins that isn't in `suffixes`, as in "12abc", and "Overflow" at the digit at
+ * which the number leaves its type, as in "300u8". A literal has no minus: "-128i8" is "Empty" at 0.
  */
 export function parseTypedLiteral<T extends NumberType>(
   text: Text,

@@ -4,53 +4,53 @@ import type { Columns, Sparse } from "./columns.js";
 import type { ParseError } from "./errors.js";
 import type { AmountOptions, Byte, FormatOption, Text } from "./numbers.js";
 
-/** What is read of a column of numbers: where it may miss some, those are told. */
+/** A column of numbers, some of which may be missing. */
 export interface ReadColumn extends FormatOption, AmountOptions {
   type: keyof Columns;
   may_miss?: boolean;
   encoding?: undefined;
 }
 
-/** What is read of a column of texts. */
+/** A column of texts. */
 export interface ReadTexts {
   type: "text";
-  /** How the bytes of a text are read, as TextDecoder names it: by default "utf-8". */
+  /** The encoding of the texts, by the names of TextDecoder: by default "utf-8". */
   encoding?: string;
-  /** Texts may be missing: those that are, byte for byte, what stands for a missing number. */
+  /** Texts may be missing: those that are exactly what stands for a missing number. */
   may_miss?: boolean;
   format?: undefined;
   places?: undefined;
 }
 
-/** A column of a table: its type, or its type with more; null where it isn't read. */
+/** A column of a table: its type, or its type with options; null if it isn't read. */
 export type TableColumn = keyof Columns | "text" | ReadColumn | ReadTexts | null;
 
 /**
- * The texts of a column, each as it is asked for. A text is what stands within the quotes of a cell that
- * has them, where a table has quotes: each doubled quote there is told as one. Blanks are part of it.
+ * The texts of a column, each decoded when it is asked for. If a table has quotes, and a cell is enclosed
+ * in them, the text is what is within, with each doubled quote as one. Blanks are part of it.
  *
- * It holds the bytes that were read. Careful: where these change, its texts do; where their buffer is
+ * It keeps the bytes that were read. Careful: if they change, so do its texts; if their buffer is
  * transferred or grows, a call throws `TypeError`. `Array.from(texts)` keeps them as strings.
  */
 export interface TextColumn extends Iterable<string | null> {
   /** How many rows the column has. */
   readonly length: number;
-  /** Where each text starts: at which byte of what was read. */
+  /** Where each text starts: the offset of its first byte in what was read. */
   readonly starts: Float64Array;
-  /** How many bytes each has: none where it is missing. */
+  /** How many bytes each has: 0 if it is missing. */
   readonly sizes: Uint32Array;
-  /** For each 1 where doubled quotes are among them, of which each two stand for one; else 0. */
+  /** For each, 1 if it contains doubled quotes, each of which stands for one; otherwise 0. */
   readonly hasDoubledQuotes: Uint8Array;
-  /** For each 0 where it is missing, and else 1; undefined where none may be missing. */
+  /** For each, 0 if it is missing, otherwise 1; undefined if none may be missing. */
   readonly present: Uint8Array | undefined;
-  /** The text of a row, counted from the end where that is below 0; null where it is missing, and undefined
-   * where there is no such row. What the encoding hasn't is told as U+FFFD. */
+  /** The text of a row, or, if that is negative, of a row counted from the end; null if it is missing, and
+   * undefined if there is no such row. Bytes that the encoding doesn't have become U+FFFD. */
   at(row: number): string | null | undefined;
   /** The same as a copy of its bytes. */
   bytesAt(row: number): Uint8Array | null | undefined;
 }
 
-/** What is read of a column. */
+/** The result for a column. */
 export type TableArray<C> = C extends "text" | { type: "text" }
   ? TextColumn
   : C extends { type: infer T extends keyof Columns }
@@ -63,40 +63,39 @@ export type TableArray<C> = C extends "text" | { type: "text" }
       ? Columns[C]
       : null;
 
-/** What is read of all columns, in their order or by their names. */
+/** The results for all columns, in their order or by their names. */
 export type TableArrays<C> = { -readonly [K in keyof C]: TableArray<C[K]> };
 
 /** How a table is written. */
 export interface Table {
-  /** The byte between two cells of a row: by default ",". A line feed ends a row, whatever this is. */
+  /** The byte between two cells of a row: by default ",". Whatever it is, a line feed ends a row. */
   separator?: Byte;
-  /** A carriage return stands before each line feed. Else it is a byte of its cell. */
+  /** Each line feed has a carriage return before it. Otherwise a carriage return is a byte of its cell. */
   has_returns?: boolean;
-  /** A carriage return may stand before a line feed that ends a row: so each row may end either way. Any
-   * other is a byte of its cell. Where `has_returns` is set, this changes nothing. */
+  /** The line feed that ends a row may have a carriage return before it: so each row may end either way. Any
+   * other is a byte of its cell. No effect if `has_returns` is set. */
   allows_returns?: boolean;
-  /** A cell may stand within quotes, '"', and then hold separators and line feeds. */
+  /** A cell may be enclosed in quotes, '"', and may then contain separators and line feeds. */
   has_quotes?: boolean;
-  /** Spaces and tabs may stand around a number, or around what stands for a missing one. */
+  /** Spaces and tabs may surround a number, or what stands for a missing one. */
   allows_blanks?: boolean;
-  /** A row without a byte is none. Else it is a row of one empty cell. */
+  /** Empty rows are skipped. Otherwise an empty row has one empty cell. */
   skips_empty_rows?: boolean;
   /** What stands for a missing number in columns that may miss some, or for a missing text: by default an
    * empty cell. */
   missing?: Text;
-  /** How many bytes a cell of each column has: then no separator is given, and none stands between
-   * cells. */
+  /** How many bytes the cell of each column has. There are then no separators, and none may be given. */
   widths?: readonly number[];
-  /** A row is a record, of as many bytes as the widths say together, and nothing stands between two
-   * rows. Else it is a line. */
+  /** A row is a record, of as many bytes as the sum of the widths, and nothing separates rows. Otherwise it
+   * is a line. */
   is_records?: boolean;
-  /** The first row is a header, and no row of the table. It is read by the table's own rules: a name may
-   * stand within quotes, with separators, line feeds and doubled quotes in it. A byte order mark in front
-   * of it is skipped. */
+  /** The first row is a header, which isn't a row of the table. It follows the rules of the table: a name
+   * may be enclosed in quotes, and may then contain separators, line feeds and doubled quotes. A byte order
+   * mark before it is skipped. */
   header?: boolean;
 }
 
-/** The first bad row ends the reading. */
+/** Reading stops at the first bad row. */
 export interface Throwing {
   onError?: "throw";
 }
@@ -104,26 +103,26 @@ export interface Throwing {
 /** Bad rows are skipped. */
 export interface Skipping {
   onError: "skip";
-  /** An array that the error of each bad row is appended to, or a function that is called with it, in the
-   * order of the rows. What it throws ends the reading. */
+  /** An array to which the error of each bad row is appended, or a function that is called with it, in the
+   * order of the rows. If the function throws, reading stops. */
   errors?: ParseError[] | ((error: ParseError) => unknown);
 }
 
-/** The right rows of a table, one behind another, and how many bad ones were skipped. */
+/** The good rows of a table, without gaps, and how many bad ones were skipped. */
 export interface Skipped<A> {
   columns: A;
   badRows: number;
 }
 
 /**
- * The rows of a text, each column as an array: null for one that isn't read, whose cells may hold any
- * bytes but the separator and a line feed, or these too within quotes. A row is a line, and has one
- * cell more than separators, as many as there are columns, unless the table has widths. The text may
- * be of any length; a row of more than `LONGEST_ROW` bytes is a `RangeError`. Careful: the end of a text
- * ends its last row. So cut a file only behind rows.
+ * Returns the rows of a text, each column as an array, or null for one that isn't read, whose cells may hold
+ * any bytes but the separator and a line feed, or even these within quotes. A row is a line. It has one
+ * cell more than separators, and needs one for each column, unless the table has widths. The text may be
+ * of any length; a row of more than `LONGEST_ROW` bytes is a `RangeError`. Careful: the end of a text
+ * ends its last row. So cut a file only after rows.
  *
  * Throws `ParseError` for the first wrong cell in reading order, with its row and column, and with `header`
- * the column's name. With `onError: "skip"` rows at fault are skipped, and counted.
+ * the column's name. With `onError: "skip"`, bad rows are skipped and counted.
  */
 export function parseTable<C extends readonly TableColumn[] | []>(
   text: Text,
@@ -137,10 +136,10 @@ export function parseTable<C extends readonly TableColumn[] | []>(
 ): TableArrays<C>;
 
 /**
- * The columns of a table that have these names in its header; the others aren't read.
+ * Returns the columns of a table that have these names in its header; the others aren't read.
  *
- * Throws besides `HeaderError` where a name is missing or stands twice: it says which there are. A header
- * that breaks the table's rules is never skipped.
+ * Also throws `HeaderError` if a name is missing or not unique: it lists the names of the header. A
+ * header that breaks the table's rules is never skipped.
  */
 export function parseTable<C extends { readonly [name: string]: TableColumn }>(
   text: Text,

@@ -1,4 +1,4 @@
-// Which rule of the grammar gave each part of a text and its answer, in a sentence with a link.
+// Which rule of the grammar explains each part of a text and its answer, in a sentence with a link.
 import { typedOf } from "./reading.js";
 
 /** The headings of GRAMMAR.md that rules link to. */
@@ -30,27 +30,27 @@ function hasPart(found, role) {
 
 function ofPrefix(found) {
   if (!found.fields.literal_prefixes) {
-    return { rule: "prefix", says: "A zero and the prefix. They say nothing of the radix." };
+    return { rule: "prefix", says: "A zero and the prefix. They don't change the radix." };
   }
   const { radix } = found;
   const chosen = radix === null ? "the radix" : `the radix ${radix}`;
-  return { rule: "literal", says: `A literal prefix, which chooses ${chosen}.` };
+  return { rule: "literal", says: `A literal prefix, which selects ${chosen}.` };
 }
 
 function ofDigits(found) {
   const isOctal = found.fields.literal_octal_zero && found.radix === 8 && !hasPart(found, "prefix");
-  if (isOctal) return { rule: "octal", says: "Digits of radix 8, as the zero in front says." };
+  if (isOctal) return { rule: "octal", says: "Digits of radix 8, because of the zero in front." };
   return { rule: "digits", says: `Digits of radix ${found.radix}.` };
 }
 
 function ofSeparators({ flags }) {
-  const passing = flags.length ? `, which pass by ${flags.join(" and ")}` : "";
-  return { rule: "separators", says: `Separators${passing}.` };
+  const allowed = flags.length ? `, allowed by ${flags.join(" and ")}` : "";
+  return { rule: "separators", says: `Separators${allowed}.` };
 }
 
 function ofSign(found, type) {
   const isMinus = found.bytes[0] === 45;
-  return { rule: "sign", says: isMinus ? `A minus, which ${type} may have.` : "A plus." };
+  return { rule: "sign", says: isMinus ? `A minus sign, as ${type} is signed.` : "A plus sign." };
 }
 
 /** What is said of the parts that have a role. */
@@ -60,7 +60,7 @@ const OF_ROLES = {
   digit: ofDigits,
   separator: ofSeparators,
   suffix: () => ({ rule: "suffix", says: "The suffix." }),
-  rest: () => ({ rule: "suffix", says: "Reading has stopped here." }),
+  rest: () => ({ rule: "suffix", says: "Reading stopped here." }),
 };
 
 /** Why the whole text isn't a number: what stands where reading stopped. */
@@ -69,20 +69,22 @@ function ofInvalidDigit(found, type, place) {
   const named = `“${typedOf(byte)}”`;
   const isBehindSuffix = found.parts.some((part) => part.role === "suffix" && part.to === place);
   if (byte === found.fields.digit_separator) {
-    return { rule: "separators", says: `A run of separators may not stand here.` };
+    return { rule: "separators", says: "This run of separators isn't allowed." };
   }
-  if (isBehindSuffix) return { rule: "suffix", says: `${named} stands behind the suffix.` };
-  if (place === 0 && byte === 45) return { rule: "sign", says: `A minus is no sign for ${type}.` };
+  if (isBehindSuffix) return { rule: "suffix", says: `${named} follows the suffix.` };
+  if (place === 0 && byte === 45) {
+    return { rule: "sign", says: `A minus sign isn't allowed: ${type} is unsigned.` };
+  }
   const radix = found.radix === null ? "" : ` of radix ${found.radix}`;
-  return { rule: "digits", says: `${named} is no digit${radix}, and the text goes on with it.` };
+  return { rule: "digits", says: `${named} isn't a digit${radix}, so the text isn't a number.` };
 }
 
 /** Why a digit is missing. */
 function ofEmpty({ bytes, parts }, place) {
   const isBehindPrefix = parts.at(-1)?.role === "prefix";
-  if (isBehindPrefix) return { rule: "prefix", says: "The text ends with its prefix." };
-  const behind = place === bytes.length ? "the text ends" : `“${typedOf(bytes[place])}” is none`;
-  return { rule: "required", says: `A digit has to be here, and ${behind}.` };
+  if (isBehindPrefix) return { rule: "prefix", says: "The text ends after its prefix." };
+  const found = place === bytes.length ? "the text ends" : `“${typedOf(bytes[place])}” isn't one`;
+  return { rule: "required", says: `A digit is required here, but ${found}.` };
 }
 
 /** What is said of a fault of the text. */
@@ -90,15 +92,15 @@ function ofFault(found, type) {
   const { kind, place } = found.answer;
   switch (kind) {
     case "InvalidPositiveSign":
-      return { rule: "sign", says: "The format refuses a plus." };
+      return { rule: "sign", says: "The format forbids a plus sign." };
     case "MissingSign":
       return { rule: "sign", says: "The format requires a sign." };
     case "InvalidLeadingZeros":
-      return { rule: "zeros", says: "The format refuses a zero before another digit." };
+      return { rule: "zeros", says: "The format forbids leading zeros." };
     case "Overflow":
-      return { rule: "range", says: `With this digit the number exceeds the greatest ${type}.` };
+      return { rule: "range", says: `At this digit the number exceeds the maximum of ${type}.` };
     case "Underflow":
-      return { rule: "range", says: `With this digit the number is below the least ${type}.` };
+      return { rule: "range", says: `At this digit the number is below the minimum of ${type}.` };
     case "Empty":
       return ofEmpty(found, place);
     default:
@@ -110,10 +112,10 @@ function ofFault(found, type) {
 function ofNumber(found, { type, call }) {
   if (hasPart(found, "digit")) {
     const { value } = found.answer;
-    return { rule: "value", says: `The digits are worth ${value}, a number of ${type}.` };
+    return { rule: "value", says: `The value is ${value}, which fits in ${type}.` };
   }
   const rule = call === "whole" ? "required" : "partial";
-  return { rule, says: "No digit is required, and the number is 0." };
+  return { rule, says: "No digit is required, so the number is 0." };
 }
 
 /**

@@ -70,51 +70,52 @@ impl Format {
     }
 
     punctuation! {
-        /// A byte that counts for nothing among the digits: "_" in "1_000". Where it may be, the
-        /// flags on separators say; with none of the first three it is no part of a number. It is
-        /// no decimal point: with "," between digits "12,5" is 125, and "12,505" is 12505. Amounts
-        /// are read as fixed-point numbers.
+        /// A byte that is ignored among the digits: "_" in "1_000". The flags on separators say
+        /// where it may stand; with none of them, nowhere. It isn't a decimal point: with ","
+        /// between digits "12,5" is 125, and "12,505" is 12505. For amounts use fixed-point
+        /// numbers.
         digit_separator JADVOLNI_NUL_IS_SEPARATOR
-        /// A byte that may follow a 0 before the digits: with "x", "0x1F" is read as "1F" is. The
-        /// radix stays.
+        /// A byte that may follow a 0 before the digits: with "x", "0x1F" is read like "1F". It
+        /// doesn't change the radix.
         base_prefix JADVOLNI_NUL_IS_PREFIX
-        /// A byte that may follow the digits: with "h", "1Fh" is read as "1F" is.
+        /// A byte that may follow the digits: with "h", "1Fh" is read like "1F".
         base_suffix JADVOLNI_NUL_IS_SUFFIX
     }
 
     flags! {
-        /// The prefix is matched exactly. Else a letter is matched in either case.
+        /// The prefix is matched exactly. Otherwise a letter matches in either case.
         case_sensitive_base_prefix
-        /// The suffix is matched exactly. Else a letter is matched in either case.
+        /// The suffix is matched exactly. Otherwise a letter matches in either case.
         case_sensitive_base_suffix
-        /// A digit is required, as by required_mantissa_digits: one of the two is enough.
+        /// A digit is required, as with required_mantissa_digits: one of the two is enough.
         required_integer_digits
-        /// A digit is required. With neither field a text without digits is 0.
+        /// A digit is required. If neither field is set, a text without digits is 0.
         required_mantissa_digits
         /// A "+" is refused.
         no_positive_mantissa_sign
         /// A text without a sign is refused.
         required_mantissa_sign
-        /// A zero before another digit is refused, as in "01". After a prefix it is not.
+        /// Leading zeros are refused, as in "01". After a prefix they aren't, nor in a number that
+        /// a zero makes octal.
         no_integer_leading_zeros
-        /// Separators may come before all digits: "_12".
+        /// Separators may come before the first digit: "_12".
         integer_leading_digit_separator
         /// Separators may come between two digits: "1_2".
         integer_internal_digit_separator
-        /// Separators may come after all digits: "12_".
+        /// Separators may come after the last digit: "12_".
         integer_trailing_digit_separator
-        /// Where one separator may be, more may: "1__2".
+        /// Where one separator may stand, several may: "1__2".
         integer_consecutive_digit_separator
-        /// Separators may come directly after a prefix, as in "0x_1F", as if they might come before
-        /// all digits there. No effect without a prefix.
+        /// Separators may come directly after a prefix, as in "0x_1F", like leading ones. No effect
+        /// without a prefix.
         integer_prefix_digit_separator
         /// "0x", "0o" and "0b" choose the radix 16, 8 or 2 for the digits after them; so do "0X",
-        /// "0O" and "0B", unless the prefix is matched exactly. The radix of the format has to be
-        /// 10, and is that of a text without one of them.
+        /// "0O" and "0B", unless the prefix is matched exactly. The radix of the format must be 10;
+        /// it is used for a text without such a prefix.
         literal_prefixes
-        /// A number is octal if its first byte, behind a sign, is 0: "0777" is 511, and "08" ends
-        /// after its zero. "1007" and "_017" are decimal, and a prefix comes first. The radix of
-        /// the format has to be 10.
+        /// A number is octal if its first byte, after any sign, is 0: "0777" is 511, and "08" ends
+        /// after its zero. "1007" and "_017" are decimal, and a prefix takes precedence. The radix
+        /// of the format must be 10.
         literal_octal_zero
     }
 
