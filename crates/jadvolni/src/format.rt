@@ -206,17 +206,16 @@ impl FormatFields {
         first == 10 && asks_for_no_literals(self)
     }
 
-    /// Whether a separator, a prefix or a suffix is surely asked for, or the prefixes of literals are. It is a first test, of
-    /// two words.
+    /// Whether the radix isn't 10, and neither a separator, a prefix or a suffix nor the prefixes of literals are asked for.
     #[inline(always)]
-    pub(crate) fn is_surely_punctuated(&self) -> bool {
+    pub(crate) fn has_radix_alone(&self) -> bool {
         let first = u32::from_le_bytes([
             self.mantissa_radix,
             self.digit_separator,
             self.base_prefix,
             self.base_suffix,
         ]);
-        first > 0xFF || self.literal_prefixes != 0
+        first <= 0xFF && first != 10 && self.literal_prefixes == 0
     }
 
     /// Whether all fields but the radix are those of the standard format.

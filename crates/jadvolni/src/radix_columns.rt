@@ -143,9 +143,9 @@ impl ColumnFields<'_> {
         ensures target { target_of self.new ≡ option_map (put_number row
             (record { start = start; text = text.now })) (target_of self.old) }
     {
-        if self.description.integer.is_surely_punctuated() {
-            return self.put_by_format(row, start, text, ahead, options);
+        if self.description.integer.has_radix_alone() {
+            return self.put_plain_number(row, start, text, ahead, options);
         }
-        self.put_plain_number(row, start, text, ahead, options)
+        self.put_by_format(row, start, text, ahead, options)
     }
 }

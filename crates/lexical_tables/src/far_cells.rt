@@ -9,31 +9,31 @@ ghost use Rattle.lexical_tables.specs.RowSoFar.{IsMarked, IsOnRow, IsRowDone, Is
 ghost use Rattle.lexical_tables.specs.Rows.{behind_piece, first_row};
 ghost use Rattle.lexical_tables.specs.Targets.{TargetView};
 
-use crate::answers::TableError;
+use crate::answers::{CellFault, TableError};
 use crate::by_column::read_rest;
 use crate::coded_cells::read_left_cell;
 use crate::codes::CODED;
 use crate::dialect::Dialect;
-use crate::next_part::{Left, far_part};
+use crate::next_part::{Left, behind_part, found_part};
+use crate::pass::read_cells_at_once;
 use crate::row_end::{ReadTo, end_row};
 use crate::targets::TableColumn;
 use lexical_parse_integer::Options;
 
 // What is left of a text behind a cell, or behind its row, if that is done.
 #[derive(Copy, Clone)]
-pub(crate) struct ReadOn<'a> {
-    pub left: Left<'a>,
-    pub is_done: bool,
+struct ReadOn<'a> {
+    left: Left<'a>,
+    is_done: bool,
 }
 
-// Reads the next cell of a row, of which this is left, where no mark shows its end: by looks behind the first. Where these have
-// none, the cell ends near the text's end, and what is left of the row is read. Out of line, since few tables have such
-// cells, and the way of others stays short without them.
-#[inline(never)]
-pub(crate) fn read_far_cell<'a, C: TableColumn>(
+// Reads the next cell of a row, of which this is left, wherever it ends. Where no look shows its end, that stands near the text's
+// own, and what is left of the row is read.
+#[inline(always)]
+fn read_far_cell<'a, C: TableColumn>(
     start: usize,
     text: &'a [u8],
-    left: &'a [u8],
+    left: Left<'a>,
     column: usize,
     index: usize,
     columns: usize,
@@ -48,7 +48,8 @@ pub(crate) fn read_far_cell<'a, C: TableColumn>(
     requires some { 0 < length text.now }
     requires columns { columns ≡ column_count dialect.now.layout }
     requires more { column < columns }
-    requires here { IsOnRow dialect.now separator text.now left.now }
+    requires here { IsOnRow dialect.now separator text.now left.text.now }
+    requires marks { AreEnds dialect.now.has_quotes separator left.text.now left.marks }
     requires marked { IsMarked dialect.now separator }
     requires codes { AreCodes dialect.now codes.now (map C.target targets.old) }
     requires usable { AreUsable (index + 1) (map C.target targets.old) }
@@ -57,7 +58,7 @@ pub(crate) fn read_far_cell<'a, C: TableColumn>(
         (old : List (Option TargetView))
         → IsRowPut kinds dialect.now index (first_row dialect.now start text.now) old
         (map C.target targets.old) column (cells_behind dialect.now
-        (first_row dialect.now start text.now) column (length text.now - length left.now))
+        (first_row dialect.now start text.now) column (length text.now - length left.entry.text.now))
         → IsRowPut kinds dialect.now index (first_row dialect.now start text.now) old
         (map C.target targets.new) (column + 1) (cells_behind dialect.now
         (first_row dialect.now start text.now) (column + 1)
@@ -66,12 +67,13 @@ pub(crate) fn read_far_cell<'a, C: TableColumn>(
         → IsOnRow dialect.now separator text.now result.left.text.now }
     ensures codes { result.is_done ≡ false
         → AreCodes dialect.now codes.now (map C.target targets.new) }
+    ensures usable { result.is_done ≡ false → AreUsable (index + 1) (map C.target targets.new) }
     ensures fine { result.is_done ≡ false → wrong.new ≡ None }
     ensures done { result.is_done ≡ true → (kinds : List (Option Kind))
         (old : List (Option TargetView))
         → IsRowPut kinds dialect.now index (first_row dialect.now start text.now) old
         (map C.target targets.old) column (cells_behind dialect.now
-        (first_row dialect.now start text.now) column (length text.now - length left.now))
+        (first_row dialect.now start text.now) column (length text.now - length left.entry.text.now))
         → IsRowDone kinds dialect.now index (first_row dialect.now start text.now) old
         (map C.target targets.new) wrong.new }
     ensures behind { result.is_done ≡ true → wrong.new ≡ None → result.left.text.now
@@ -81,8 +83,8 @@ pub(crate) fn read_far_cell<'a, C: TableColumn>(
     ensures marks { AreEnds dialect.now.has_quotes separator result.left.text.now
         result.left.marks }
 {
-    let passed = text.len() - left.len();
-    let Some(found) = far_part(text, left, separator, dialect) else {
+    let passed = text.len() - left.text.len();
+    let Some(found) = found_part(text, left, separator, dialect) else {
         let text = read_rest(
             start, text, passed, column, index, dialect, options, targets, wrong,
         );
@@ -97,7 +99,7 @@ pub(crate) fn read_far_cell<'a, C: TableColumn>(
         column,
         index,
         start + passed,
-        left,
+        left.text,
         found.part.size,
         dialect,
         options,
@@ -115,25 +117,91 @@ pub(crate) fn read_far_cell<'a, C: TableColumn>(
         };
     }
     let read = ReadTo {
-        left: Left {
-            text: left,
-            marks: 0,
-        },
+        left,
         column: column + 1,
         part: found.part,
     };
+    end_row(start, text, read, index, columns, separator, dialect, wrong);
     ReadOn {
-        left: end_row(
-            start,
+        left: found.behind,
+        is_done: true,
+    }
+}
+
+// What is left of a text behind its first row, whose cells from here on are read: one that no look at 64 bytes shows the end of,
+// and those behind it. Out of line, since few tables have such cells, and the way of others stays short without them.
+#[inline(never)]
+pub(crate) fn read_far_cells<'a, C: TableColumn, const HAS_QUOTES: bool>(
+    start: usize,
+    text: &'a [u8],
+    rest: &'a [u8],
+    first: usize,
+    index: usize,
+    columns: usize,
+    separator: u8,
+    codes: &[u8; CODED],
+    dialect: &Dialect<'_>,
+    options: &Options,
+    targets: &mut [C],
+    wrong: &mut Option<TableError>,
+) -> &'a [u8]
+    requires quotes { dialect.now.has_quotes ≡ HAS_QUOTES }
+    requires fine { wrong.old ≡ None }
+    requires some { 0 < length text.now }
+    requires columns { columns ≡ column_count dialect.now.layout }
+    requires more { first < columns }
+    requires here { IsOnRow dialect.now separator text.now rest.now }
+    requires marked { IsMarked dialect.now separator }
+    requires codes { AreCodes dialect.now codes.now (map C.target targets.old) }
+    requires usable { AreUsable (index + 1) (map C.target targets.old) }
+    requires fits { start + length text.now < 2 ^ 64 }
+    ensures done { (kinds : List (Option Kind)) (old : List (Option TargetView))
+        → IsRowPut kinds dialect.now index (first_row dialect.now start text.now) old
+        (map C.target targets.old) first (cells_behind dialect.now
+        (first_row dialect.now start text.now) first (length text.now - length rest.now))
+        → IsRowDone kinds dialect.now index (first_row dialect.now start text.now) old
+        (map C.target targets.new) wrong.new }
+    ensures behind { wrong.new ≡ None → result.now
+        ≡ behind_piece dialect.now.layout dialect.now.has_quotes text.now }
+    ensures shorter { wrong.new ≡ None → length result.now < length text.now }
+{
+    let mut left = Left {
+        text: rest,
+        marks: 0,
+    };
+    let mut column = first;
+    loop {
+        let far = read_far_cell(
+            start, text, left, column, index, columns, separator, codes, dialect, options, targets,
+            wrong,
+        );
+        if far.is_done {
+            return far.left.text;
+        }
+        let read = read_cells_at_once::<C, HAS_QUOTES>(
             text,
-            read,
-            found.behind,
+            far.left,
+            column + 1,
             index,
             columns,
             separator,
+            codes,
             dialect,
-            wrong,
-        ),
-        is_done: true,
+            targets,
+        );
+        if read.part.is_last {
+            end_row(start, text, read, index, columns, separator, dialect, wrong);
+            return behind_part(read.left, read.part.end).text;
+        }
+        if read.column == columns {
+            *wrong = Some(TableError {
+                row: index,
+                column: read.column,
+                fault: CellFault::TooManyCells(start + (text.len() - read.left.text.len())),
+            });
+            return read.left.text;
+        }
+        left = read.left;
+        column = read.column;
     }
 }

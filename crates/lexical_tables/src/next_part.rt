@@ -125,7 +125,7 @@ pub(crate) fn next_part(
 
 // The next cell of the first row of a text, of which this is left, if it ends in front of the text's last bytes.
 #[inline(always)]
-pub(crate) fn far_part<'a>(
+fn far_part<'a>(
     text: &[u8],
     left: &'a [u8],
     separator: u8,
@@ -148,4 +148,30 @@ pub(crate) fn far_part<'a>(
             },
         }),
     }
+}
+
+// The next cell of the first row of a text, of which this is left: by its marks, and where there is none, by looks behind these.
+#[inline(always)]
+pub(crate) fn found_part<'a>(
+    text: &[u8],
+    left: Left<'a>,
+    separator: u8,
+    dialect: &Dialect<'_>,
+) -> Option<Found<'a>>
+    requires marks { AreEnds dialect.now.has_quotes separator left.text.now left.marks }
+    requires here { IsOnRow dialect.now separator text.now left.text.now }
+    requires marked { IsMarked dialect.now separator }
+    ensures part { IfSome result
+        (λ found. IsPart dialect.now separator text.now left.entry.text.now found.part) }
+    ensures behind { IfSome result (λ found. IsBehind dialect.now separator left.entry.text.now
+        found.part.end found.behind.text.now found.behind.marks) }
+{
+    if left.marks == 0 {
+        return far_part(text, left.text, separator, dialect);
+    }
+    let part = next_part(text, left.text, left.marks, separator, dialect);
+    Some(Found {
+        part,
+        behind: behind_part(left, part.end),
+    })
 }

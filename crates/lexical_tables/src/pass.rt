@@ -15,7 +15,7 @@ use crate::coded_cells::{read_coded_cell, read_left_cell};
 use crate::codes::{CODED, UNKNOWN, put_codes};
 use crate::dialect::{Dialect, Layout};
 use crate::ends::{LEAST_MARKED, next_ends};
-use crate::far_cells::read_far_cell;
+use crate::far_cells::read_far_cells;
 use crate::next_part::{Left, Part, behind_part, next_part};
 use crate::row_end::{ReadTo, end_row};
 use crate::rows::without_empty_rows;
@@ -61,7 +61,7 @@ fn read_to(left: Left<'_>, column: usize) -> ReadTo<'_>
 // Reads cells of a row at once, by the codes of their columns, from what is left of it on, as long as marks find them and they are
 // had. No call stands in the loop, so that all it needs stays in registers.
 #[inline(always)]
-fn read_cells_at_once<'a, C: TableColumn, const HAS_QUOTES: bool>(
+pub(crate) fn read_cells_at_once<'a, C: TableColumn, const HAS_QUOTES: bool>(
     text: &[u8],
     from: Left<'a>,
     first: usize,
@@ -168,17 +168,10 @@ fn read_marked_row<'a, C: TableColumn, const HAS_QUOTES: bool>(
             text.text, left, column, index, columns, separator, codes, dialect, targets,
         );
         if read.part.is_last {
-            return end_row(
-                start,
-                text.text,
-                read,
-                behind_part(read.left, read.part.end),
-                index,
-                columns,
-                separator,
-                dialect,
-                wrong,
+            end_row(
+                start, text.text, read, index, columns, separator, dialect, wrong,
             );
+            return behind_part(read.left, read.part.end);
         }
         let passed = text.text.len() - read.left.text.len();
         if read.column == columns {
@@ -204,7 +197,7 @@ fn read_marked_row<'a, C: TableColumn, const HAS_QUOTES: bool>(
                 );
                 return Left { text, marks: 0 };
             }
-            let far = read_far_cell(
+            let text = read_far_cells::<C, HAS_QUOTES>(
                 start,
                 text.text,
                 read.left.text,
@@ -218,54 +211,42 @@ fn read_marked_row<'a, C: TableColumn, const HAS_QUOTES: bool>(
                 targets,
                 wrong,
             );
-            column = read.column + 1;
-            left = far.left;
-            if far.is_done {
-                return left;
-            }
-        } else {
-            let part = next_part(
-                text.text,
-                read.left.text,
-                read.left.marks,
-                separator,
-                dialect,
-            );
-            if !read_left_cell(
-                targets,
-                codes,
-                read.column,
-                index,
-                start + passed,
-                read.left.text,
-                part.size,
-                dialect,
-                options,
-                wrong,
-            ) {
-                return read.left;
-            }
-            column = read.column + 1;
-            if part.is_last {
-                let read = ReadTo {
-                    left: read.left,
-                    column,
-                    part,
-                };
-                return end_row(
-                    start,
-                    text.text,
-                    read,
-                    behind_part(read.left, part.end),
-                    index,
-                    columns,
-                    separator,
-                    dialect,
-                    wrong,
-                );
-            }
-            left = behind_part(read.left, part.end);
+            return Left { text, marks: 0 };
         }
+        let part = next_part(
+            text.text,
+            read.left.text,
+            read.left.marks,
+            separator,
+            dialect,
+        );
+        if !read_left_cell(
+            targets,
+            codes,
+            read.column,
+            index,
+            start + passed,
+            read.left.text,
+            part.size,
+            dialect,
+            options,
+            wrong,
+        ) {
+            return read.left;
+        }
+        column = read.column + 1;
+        if part.is_last {
+            let read = ReadTo {
+                left: read.left,
+                column,
+                part,
+            };
+            end_row(
+                start, text.text, read, index, columns, separator, dialect, wrong,
+            );
+            return behind_part(read.left, part.end);
+        }
+        left = behind_part(read.left, part.end);
     }
 }
 

@@ -2,9 +2,8 @@
 
 ghost use Rattle.std.specs.Prelude.{◌≡◌, ◌+◌, ◌<◌, ◌≤◌, ◌^◌, None, length, true};
 ghost use Rattle.lexical_tables.specs.ByColumn.{column_count, end_fault};
-ghost use Rattle.lexical_tables.specs.Ends.{AreEnds};
-ghost use Rattle.lexical_tables.specs.RowSoFar.{IsBehind, IsPart};
-ghost use Rattle.lexical_tables.specs.Rows.{behind_piece, first_row};
+ghost use Rattle.lexical_tables.specs.RowSoFar.{IsPart};
+ghost use Rattle.lexical_tables.specs.Rows.{first_row};
 
 use crate::answers::TableError;
 use crate::by_column::put_end_fault;
@@ -21,40 +20,32 @@ pub(crate) struct ReadTo<'a> {
     pub part: Part,
 }
 
-// Tells what is wrong with the end of a row whose last cell was read, behind which this is left of the text: that is left of it
-// behind the row.
+// Tells what is wrong with the end of a row whose last cell was read.
 #[inline(always)]
-pub(crate) fn end_row<'a>(
+pub(crate) fn end_row(
     start: usize,
     text: &[u8],
     read: ReadTo<'_>,
-    behind: Left<'a>,
     index: usize,
     columns: usize,
     separator: u8,
     dialect: &Dialect<'_>,
     wrong: &mut Option<TableError>,
-) -> Left<'a>
+)
     requires fine { wrong.old ≡ None }
     requires columns { columns ≡ column_count dialect.now.layout }
     requires few { read.column ≤ columns }
     requires within { length read.left.text.now ≤ length text.now }
     requires part { IsPart dialect.now separator text.now read.left.text.now read.part }
     requires last { read.part.is_last ≡ true }
-    requires behind { IsBehind dialect.now separator read.left.text.now read.part.end
-        behind.text.now behind.marks }
     requires fits { start + length text.now < 2 ^ 64 }
-    ensures fault { wrong.new ≡ end_fault columns index (first_row dialect.now start text.now)
+    ensures { wrong.new ≡ end_fault columns index (first_row dialect.now start text.now)
         read.entry.column None }
-    ensures behind { result.text.now
-        ≡ behind_piece dialect.now.layout dialect.now.has_quotes text.now }
-    ensures shorter { length result.text.now < length read.entry.left.text.now }
-    ensures marks { AreEnds dialect.now.has_quotes separator result.text.now result.marks }
 {
     let left = read.left.text;
     let lacks_return = lacks_return(left, read.part.size, dialect.has_returns);
     if read.column == columns && !lacks_return {
-        return behind;
+        return;
     }
     let row = Row {
         start,
@@ -62,5 +53,4 @@ pub(crate) fn end_row<'a>(
         lacks_return,
     };
     put_end_fault(&row, index, columns, read.column, None, wrong);
-    behind
 }

@@ -1,12 +1,13 @@
 use Rattle.std.proofs.Common.{◌≡◌, ◌∙◌, ◌+◌, ◌-◌, ◌<◌, ◌∷◌, [], None, ap, arith, cond, drop, inl, length, map, refl, subst, sym, take}
 use Rattle.std.specs.Prelude.{option_map}
 use Rattle.lexical_fields.specs.Fields.{FieldView}
-use Rattle.lexical_tables.specs.ByColumn.{answer_at, end_fault, fault_in, kinds_of, wrong_cell}
+use Rattle.lexical_tables.specs.ByColumn.{AreUsable, answer_at, end_fault, fault_in, kinds_of, wrong_cell}
 use Rattle.lexical_tables.specs.Codes.{AreCodes}
 use Rattle.lexical_tables.specs.RowSoFar.{IsRowDone, cells_behind, count_in}
 use Rattle.lexical_tables.specs.Rows.{first_row}
 use Rattle.lexical_tables.proofs.CodeSteps.{codes_put}
 use Rattle.lexical_tables.proofs.ColumnSteps.{after_cell, after_fault, row_ends}
+use Rattle.lexical_tables.proofs.PutSteps.{use_put}
 use Rattle.lexical_tables.proofs.PassSteps.{none_wrong, some_wrong}
 use Rattle.lexical_tables.proofs.far_cells.read_far_cell.Goals as goal
 
@@ -14,7 +15,7 @@ pub returns-then-not-read_left_cell-clause-done : goal.returns-then-not-read_lef
 returns-then-not-read_left_cell-clause-done g c = λ is_done kinds old put.
     let d = c.args.dialect.now in
     let text = c.args.text.now in
-    let left = c.args.left.now in
+    let left = c.args.left.text.now in
     let row = first_row d c.args.start text in
     let before = map g.C.TableColumn.target c.args.targets.now in
     let now = map g.C.TableColumn.target c.read_left_cell.new.targets in
@@ -32,7 +33,7 @@ pub returns-then-not-found-clause-goes_on : goal.returns-then-not-found-clause-g
 returns-then-not-found-clause-goes_on g c = λ goes kinds old put.
     let d = c.args.dialect.now in
     let text = c.args.text.now in
-    let left = c.args.left.now in
+    let left = c.args.left.text.now in
     let start = c.args.start in
     let row = first_row d start text in
     let column = c.args.column in
@@ -51,7 +52,7 @@ pub returns-then-not-found-clause-codes : goal.returns-then-not-found-clause-cod
 returns-then-not-found-clause-codes g c = λ goes.
     let d = c.args.dialect.now in
     let before = map g.C.TableColumn.target c.args.targets.now in
-    let cell : FieldView = record { start = c.args.start + (length c.args.text.now - length c.args.left.now); text = take c.in-Some.found.part.size c.args.left.now } in
+    let cell : FieldView = record { start = c.args.start + (length c.args.text.now - length c.args.left.text.now); text = take c.in-Some.found.part.size c.args.left.text.now } in
     subst (AreCodes d c.args.codes.now) (sym c.read_left_cell.ensures.targets)
     (codes_put d c.args.codes.now c.args.index c.args.column (answer_at d (kinds_of before) c.args.column cell) before c.requires.codes)
 
@@ -59,7 +60,7 @@ pub returns-clause-done : goal.returns-clause-done
 returns-clause-done g c = λ is_done kinds old put.
     let d = c.args.dialect.now in
     let text = c.args.text.now in
-    let left = c.args.left.now in
+    let left = c.args.left.text.now in
     let row = first_row d c.args.start text in
     let column = c.args.column in
     let before = map g.C.TableColumn.target c.args.targets.now in
@@ -72,4 +73,9 @@ returns-clause-done g c = λ is_done kinds old put.
     ∙ ap (λ t. cell ∷ cond t [] (cells_behind d row (column + 1) (length text - length (drop (part.end + 1) left)))) c.if-not-found.false in
     let one_more = after_cell kinds d c.args.index row old before column _ put cell _ at more now fine c.read_left_cell.ensures.targets in
     row_ends kinds d c.args.index row old now (column + 1) [] one_more c.end_row.new.wrong (inl refl)
-    (c.end_row.ensures.fault ∙ ap (λ n. end_fault n c.args.index row (column + 1) None) c.requires.columns)
+    (c.end_row.ensures ∙ ap (λ n. end_fault n c.args.index row (column + 1) None) c.requires.columns)
+
+pub returns-then-not-found-clause-usable : goal.returns-then-not-found-clause-usable
+returns-then-not-found-clause-usable g c = λ goes.
+    subst (AreUsable (c.args.index + 1)) (sym c.read_left_cell.ensures.targets)
+    (use_put (c.args.index + 1) c.args.index c.args.column _ (map g.C.TableColumn.target c.args.targets.now) c.requires.usable)

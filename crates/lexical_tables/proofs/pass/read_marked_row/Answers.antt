@@ -152,7 +152,7 @@ returns-then-part-clause-fault g c =
     ∙ ap (λ t. cell ∷ cond t [] (cells_behind d row (column + 1) (length text - length (drop (part.result.end + 1) left)))) c.if-part.true in
     let one_more = after_cell kinds d c.args.index row old before column _ put cell _ at more now fine c.read_left_cell.ensures.targets in
     let done = row_ends kinds d c.args.index row old now (column + 1) [] one_more c.end_row-then-part.new.wrong (inl refl)
-    (c.end_row-then-part.ensures.fault ∙ ap (λ n. end_fault n c.args.index row (column + 1) None) c.requires.columns) in
+    (c.end_row-then-part.ensures ∙ ap (λ n. end_fault n c.args.index row (column + 1) None) c.requires.columns) in
     done.fault_is
 
 pub returns-then-part-clause-targets : goal.returns-then-part-clause-targets
@@ -177,7 +177,7 @@ returns-then-part-clause-targets g c =
     ∙ ap (λ t. cell ∷ cond t [] (cells_behind d row (column + 1) (length text - length (drop (part.result.end + 1) left)))) c.if-part.true in
     let one_more = after_cell kinds d c.args.index row old before column _ put cell _ at more now fine c.read_left_cell.ensures.targets in
     let done = row_ends kinds d c.args.index row old now (column + 1) [] one_more c.end_row-then-part.new.wrong (inl refl)
-    (c.end_row-then-part.ensures.fault ∙ ap (λ n. end_fault n c.args.index row (column + 1) None) c.requires.columns) in
+    (c.end_row-then-part.ensures ∙ ap (λ n. end_fault n c.args.index row (column + 1) None) c.requires.columns) in
     done.targets_are
 
 pub loop-read-preserved : goal.loop-read-preserved
