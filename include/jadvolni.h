@@ -121,8 +121,8 @@ typedef enum jadvolni_status {
      * first byte that isn't part of the number: 2 in "12x", and 0 in "x". */
     JADVOLNI_INVALID_DIGIT = 3,
 
-    /* A digit is required and there is none, or the text ends after its prefix. The place is where
-     * the digit is missing: 0 in "", 1 in "+", and 2 in "0x" with the prefix 'x'. */
+    /* A digit is required and there is none, or the text ends directly after its prefix. The place is
+     * where the digit is missing: 0 in "", 1 in "+", and 2 in "0x" with the prefix 'x'. */
     JADVOLNI_EMPTY = 4,
 
     /* The format requires a sign, and the text doesn't begin with one. The place is 0. */
@@ -162,13 +162,13 @@ typedef enum jadvolni_status {
      * many starts. */
     JADVOLNI_TOO_MANY_CELLS = 15,
 
-    /* The table has returns, and the line feed at the place has no carriage return before it. */
+    /* The table requires carriage returns, and the line feed at the place has none before it. */
     JADVOLNI_MISSING_RETURN = 16,
 
     /* The table is invalid: a reserved byte isn't 0, the number of widths is neither 0 nor that of the
-     * columns, or its rows are records and it has no widths. Or the column that the result names is:
-     * its array or its bits have room for fewer rows than `capacity`, or it has a format and no array
-     * with room. The place is 0. jadvolni_table_text says which of these it is. */
+     * columns, or its rows are records and it has no widths. Or the result's column is invalid: its
+     * array or its bits have room for fewer rows than `capacity`, or it has a format and no array with
+     * room. The place is 0. jadvolni_table_text says which of these it is. */
     JADVOLNI_INVALID_TABLE = 17,
 
     /* A quote in a cell neither encloses it nor is doubled within quotes that do, or it is never closed,
@@ -317,8 +317,8 @@ typedef struct jadvolni_format {
      * the format must be 10. */
     uint8_t literal_octal_zero;
 
-    /* Bits: which of the three bytes is the byte 0 itself, if its field is 0. JADVOLNI_NUL_IS_SEPARATOR,
-     * JADVOLNI_NUL_IS_PREFIX and JADVOLNI_NUL_IS_SUFFIX; the other bits are 0. */
+    /* Bits: which of separator, prefix and suffix is the byte 0 itself; its own field is then 0.
+     * JADVOLNI_NUL_IS_SEPARATOR, JADVOLNI_NUL_IS_PREFIX and JADVOLNI_NUL_IS_SUFFIX; other bits are 0. */
     uint8_t nul_is_punctuation;
 
     /* All 0. They are for fields of later versions: if a program sets such a field, and runs with this
@@ -573,7 +573,7 @@ JADVOLNI_SAME_BITS_(ullong, unsigned long long, uint64_t, jadvolni_parse_u64)
  *     jadvolni_result r = jadvolni_parse_literal("1_000i64;", 9, &rust, &value, &suffix);
  *
  * gives 1000, JADVOLNI_OK at 8, and 5 as the place where its suffix, "i64", begins. The suffix is all
- * ASCII letters, digits 0 to 9 and "_" that follow the number. Without any, `suffix` equals `r.place`.
+ * ASCII letters, digits 0 to 9 and "_" that follow the number. Without any, `*suffix` equals `r.place`.
  * A letter that is a digit of the number isn't part of the suffix: "0xFFu" has the suffix "u", and
  * "0xFFf" none.
  *
@@ -635,7 +635,7 @@ typedef struct jadvolni_suffix {
  *                                                      &suffix, &entry);
  *
  * gives 1000, JADVOLNI_OK at 8, 5 as the place where the suffix begins, and 2 as the index of its entry,
- * which is the first of two equal ones. It returns the first of these faults that applies:
+ * the first if several are equal. It returns the first of these faults that applies:
  *
  *     JADVOLNI_UNKNOWN_FIELD, JADVOLNI_INVALID_SUFFIX_TABLE  of the format and of the table, whatever
  *                              the text.
@@ -708,7 +708,7 @@ uint32_t jadvolni_fixed_error(const jadvolni_fixed *fixed) JADVOLNI_PURE_ JADVOL
  *     JADVOLNI_OVERFLOW, JADVOLNI_UNDERFLOW  at the digit at which the number leaves the type; if only
  *                             zeros that aren't written make it leave the type, where reading stops.
  *     JADVOLNI_INVALID_DIGIT  at the first byte that isn't allowed: the digit after the last place, the
- *                             byte after a point that no digit follows, a point if there are no places.
+ *                             byte after a point that no digit follows, a point if `places` is 0.
  *     JADVOLNI_EMPTY          where a digit is missing: at the end of "12.", and where there are fewer
  *                             digits than required.
  *
@@ -902,8 +902,8 @@ typedef struct jadvolni_cell_text {
  * A column of a table: what its cells look like, and the array for its numbers or for the places of its
  * texts. SET ONE OF THE ARRAYS: it chooses the type. If several have room, the first of them is used.
  * A column with none, such as {0}, isn't read: its cells may hold any bytes but the separator and a line
- * feed. If rows are asked for, the radix of its format must then be 0, as in {0}: otherwise the status
- * is JADVOLNI_INVALID_TABLE.
+ * feed. If the call's `capacity` isn't 0, the radix of its format must then be 0, as in {0}: otherwise
+ * the status is JADVOLNI_INVALID_TABLE.
  *
  *     jadvolni_table_column amount = {.places = 2, .point = ',', .i64 = {cents, 1000}};
  *     amount.format.digit_separator = '.';

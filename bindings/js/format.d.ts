@@ -1,4 +1,4 @@
-// Formats: what a text may look like. The fields and the formats of languages are written by make docs.
+// Formats: which texts are numbers. The fields and the formats of languages are written by make docs.
 
 import type { Byte } from "./numbers.js";
 
@@ -51,15 +51,15 @@ export interface Fields {
   literal_octal_zero: boolean;
 }
 
-/** What a text may look like. A format can't be changed, and one that breaks a rule isn't made. */
+/** Which texts are numbers. A format can't be changed, and one that breaks a rule isn't made. */
 export interface Format extends Readonly<Fields> {}
 export class Format {
   #private;
   /**
-   * The standard format, changed by these fields: `new Format({ mantissa_radix: 16 })`. One that
-   * begins with another is `new Format({ ...formats.RUST, base_suffix: "u" })`.
+   * The standard format, changed by these fields: `new Format({ mantissa_radix: 16 })`. To begin with
+   * another, write `new Format({ ...formats.RUST, base_suffix: "u" })`.
    *
-   * Throws `FormatError` where the format breaks a rule, and `TypeError` for a name that no field
+   * Throws `FormatError` if the format breaks a rule, and `TypeError` for a name that no field
    * has, or a value that the field can't have.
    */
   constructor(fields?: Partial<Fields>);

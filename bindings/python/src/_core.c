@@ -153,53 +153,53 @@ static PyObject *check_fixed(PyObject *module, PyObject *fixed)
 static PyMethodDef METHODS[] = {
     CALL(parse,
          "parse(text, type=\"i64\", format=None, *, min=None, max=None)\n--\n\n"
-         "The number that the whole text stands for.\n\n"
-         "The text is a str, read as UTF-8, or an object of contiguous bytes. ParseError tells\n"
-         "why it is no number of the type, or that it is less than `min` or more than `max`, and\n"
-         "FormatError why the format is none. A Fixed in the place of the type reads a\n"
-         "fixed-point number, in units of its last place."),
+         "Return the number that the whole text stands for.\n\n"
+         "The text is a str, read as UTF-8, or an object of contiguous bytes. ParseError says\n"
+         "why it isn't a number of the type, or that it is less than `min` or greater than `max`;\n"
+         "FormatError says which rule the format breaks. With a Fixed as the type, the number is\n"
+         "a fixed-point number, in units of its last place."),
     CALL(parse_front,
          "parse_front(text, type=\"i64\", format=None)\n--\n\n"
-         "The number in front of the text, and how many bytes of the text it has. A Fixed may\n"
-         "stand in the place of the type.\n\n"
-         "Where no digit was read, ParseError tells the place where reading stopped. Where more\n"
-         "bytes may come, an answer at the text's end isn't final: 12 may go on as 123."),
+         "Return the number at the beginning of the text, and its length in bytes. A Fixed may\n"
+         "be the type.\n\n"
+         "If no digit was read, ParseError has the place where reading stopped. If more bytes\n"
+         "may come, a result at the text's end isn't final: 12 may continue as 123."),
     CALL(parse_partial,
          "parse_partial(text, type=\"i64\", format=None)\n--\n\n"
-         "The number at the text's front, where no digit has to be there.\n\n"
-         "Such a front is mostly 0: take parse_front where a number has to be there."),
+         "As parse_front, but digits may be missing.\n\n"
+         "Without them it usually returns 0: use parse_front if you need a number."),
     CALL(parse_literal,
          "parse_literal(text, format=None)\n--\n\n"
-         "The literal that the text begins with: its value, its suffix, and how many bytes of\n"
-         "the text it has.\n\n"
-         "The suffix is all ASCII letters, digits 0 to 9 and \"_\" behind the number; which ones\n"
-         "a language has is for the caller to ask. The value has up to 128 bits."),
+         "Return the literal at the beginning of the text: its value, its suffix, and its length\n"
+         "in bytes.\n\n"
+         "The suffix is all ASCII letters, digits 0 to 9 and \"_\" that follow the number; the\n"
+         "caller decides which are valid. The value has up to 128 bits."),
     CALL(parse_typed_literal,
          "parse_typed_literal(text, suffixes, format=None)\n--\n\n"
-         "The literal that the text begins with, as of the type that its suffix names: its value,\n"
-         "its suffix, the type, and how many bytes of the text it has.\n\n"
-         "suffixes: a dict of suffixes and their types, byte for byte. The empty one names the\n"
-         "type of a literal without a suffix. ParseError tells a digit behind the number, a\n"
-         "suffix that isn't in it, or the digit with which the number leaves its type. A literal\n"
-         "has no minus: where one widens the range, let the suffix name the unsigned type."),
+         "Return the literal at the beginning of the text as the type that its suffix names: its\n"
+         "value, its suffix, the type, and its length in bytes.\n\n"
+         "suffixes: a dict of suffixes and their types, matched byte for byte. The empty suffix\n"
+         "is for literals without one. ParseError is for a digit after the number, a suffix that\n"
+         "isn't in the dict, or a number that leaves its type. A literal has no minus: if one\n"
+         "widens the range, let the suffix name the unsigned type."),
     CALL(parse_column,
          "parse_column(text, type=\"i64\", separator=b\"\\n\", format=None, *, has_returns=False, "
          "allows_returns=False, allows_blanks=False, missing=None)\n--\n\n"
-         "The numbers of the text's fields, as an array.array.\n\n"
-         "A field is the bytes up to a separator, which may be any byte; a last separator ends\n"
-         "no further field. ParseError has the first field that is no number, by `field` and\n"
-         "`start`, and its `place` counts from the text's start. The GIL is released: no\n"
+         "Return the numbers of the text's fields, as an array.array.\n\n"
+         "A field is the bytes up to a separator, which may be any byte; a separator at the end\n"
+         "starts no further field. ParseError has the first field that isn't a number, as `field`\n"
+         "and `start`, and its `place` counts from the start of the text. The GIL is released: no\n"
          "other thread may change the text meanwhile.\n\n"
-         "Lines alone may have more, and then are read as a table of one column. has_returns: a\n"
-         "return stands before each line feed. allows_returns: one may stand there, so that each\n"
-         "line may end either way. allows_blanks: spaces and tabs may stand around a number or\n"
-         "`missing`. missing: what stands for a missing number; the column then is a Sparse, and\n"
-         "with None no number may be missing. type: a Fixed reads amounts."),
+         "The other arguments are for lines, which are then read as a table of one column.\n"
+         "has_returns: each line feed has a carriage return before it. allows_returns: it may\n"
+         "have one, so that each line may end either way. allows_blanks: spaces and tabs may\n"
+         "surround a number or `missing`. missing: what stands for a missing number; the column\n"
+         "is then a Sparse, and with None no number may be missing. type: a Fixed reads amounts."),
     CALL(line_column,
          "line_column(text, place)\n--\n\n"
-         "Line and column of a place of a text, both from 0: how many line feeds stand before it,\n"
-         "and how many bytes behind the last of them.\n\n"
-         "An editor counts the same from 1. A place behind the text is taken for its end."),
+         "Return the line and column of a place of a text, both from 0: the number of line feeds\n"
+         "before it, and the number of bytes after the last of them.\n\n"
+         "Editors count from 1. A place past the end of the text counts as its end."),
     {"_parse_part", (PyCFunction)(void (*)(void))parse_part, METH_FASTCALL,
      "A column whose fields count on from those of the parts before it."},
     {"_parse_table", (PyCFunction)(void (*)(void))parse_table, METH_FASTCALL,

@@ -27,14 +27,14 @@ int make_exceptions(PyObject *module, core_state *state)
 {
     state->parse_error = exception(
         module, "ParseError", "jadvolni.ParseError",
-        "A text is no number of its type, or none under its format.\n\n"
-        "kind: what is wrong, as \"Overflow\". place: at which byte of the text.\n"
-        "min, max: the bounds, where the kind is \"OutOfBounds\"; the place is 0.\n"
-        "field, start: in a column the field's index and its first byte.\n"
-        "row, column: in a table the wrong cell. name: that of its column.\n"
-        "line: the line feeds before the place. row_start, row_stop: where its row is.\n"
+        "A text isn't a number of its type under its format.\n\n"
+        "kind: what is wrong, as \"Overflow\". place: the offset of the wrong byte in the text.\n"
+        "min, max: the bounds, if the kind is \"OutOfBounds\"; the place is then 0.\n"
+        "field, start: in a column, the field's index and the place of its first byte.\n"
+        "row, column: in a table, the wrong cell. name: that of its column.\n"
+        "line: the number of line feeds before the place. row_start, row_stop: where its row is.\n"
         "text: the first 40 bytes of the cell.\n\n"
-        "All count from 0, and messages count lines and columns from 1.");
+        "All count from 0; messages count lines and columns from 1.");
     if (!state->parse_error)
         return -1;
     state->format_error = exception(

@@ -20,8 +20,8 @@
     ...
     jadvolni.ParseError: overflow at byte 19: b'18446744073709551616'
 
-The parsers are those of the library `jadvolni`, whose answers are proved. This module hands texts
-to them and numbers back; it is tested, and not proved.
+The parsers are those of the library `jadvolni`, whose results are proved. This module passes texts
+to them and returns their numbers; it is tested, and not proved.
 """
 
 from ._core import (

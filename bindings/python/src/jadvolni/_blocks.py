@@ -17,10 +17,10 @@ _LARGE = 31 << 20
 
 
 class File(Protocol):
-    """What is opened by "rb", as also by gzip."""
+    """What is opened with "rb", also by gzip."""
 
     def read(self, size: int, /) -> Optional[bytes]:
-        """So many bytes at most, or all for -1."""
+        """At most so many bytes, or all for -1."""
 
 
 def _one_or_more(name: str, value: object) -> int:
@@ -72,12 +72,12 @@ def iter_column(
     size: int = 1 << 20,
     progress: Optional[Callable[[int], object]] = None,
 ) -> Iterator[array[int]]:
-    """The numbers of a file's fields, an array for each block of about `size` bytes.
+    """Yield the numbers of a file's fields, an array for each block of about `size` bytes.
 
     A field that a block cuts is read with the next one. ParseError counts `field`, `start` and
-    `place` over the whole file, and the arrays before it stand. A field of more than `size` bytes
-    is a ValueError, so that no more than two blocks are held. `progress`, as `update` of a bar of
-    tqdm, is called behind each block with how many bytes it had; what it raises ends the reading.
+    `place` over the whole file; the arrays before it have been yielded. A field of more than `size`
+    bytes is a ValueError, so that no more than two blocks are held. `progress`, such as `update` of
+    a tqdm bar, is called after each block with its number of bytes; if it raises, reading ends.
     """
     size = _one_or_more("size", size)
     parted = separator.encode() if isinstance(separator, str) else separator

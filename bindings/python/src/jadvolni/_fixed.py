@@ -14,22 +14,22 @@ if TYPE_CHECKING:
 
 @dataclasses.dataclass(frozen=True, repr=False, eq=False)
 class Fixed:
-    """How fixed-point numbers are written, as amounts of money: an integer part, and digits behind
-    a point. Calls take it in the place of a type.
+    """How fixed-point numbers are written, such as amounts of money: an integer part, and decimal
+    places after a point. Calls accept it as a type.
 
-    Their numbers are told in units of the last place, exactly, and nothing is rounded: with two
+    The numbers are in units of the last place; they are exact, and nothing is rounded: with two
     places "12.50" is 1250, "-0.05" is -5, and "12.505" is a fault at its last byte.
 
     type: The type of the numbers, in these units.
-    places: How many digits stand behind the point, from 0 to 38. With none no point is read.
-    point: The byte before the fraction.
-    group: A byte that may stand between two digits of the integer part, as in "1,234.00". How many
-        digits stand between two of them isn't looked at.
-    takes_fewer: Fewer digits behind the point are taken, as if zeros stood for the others, and none
-        without a point: "12.5" and "12".
-    format: What the integer part looks like: its sign, its separators, its zeros.
+    places: The number of decimal places, from 0 to 38. With 0 no point is read.
+    point: The byte before the decimal places.
+    group: A byte that may stand between two digits of the integer part, as in "1,234.00". The
+        number of digits between two of them isn't checked.
+    takes_fewer: Fewer decimal places are accepted, as if zeros followed, and with none the point is
+        left out too: "12.5" and "12".
+    format: What the integer part looks like: its sign, separators and leading zeros.
 
-    FormatError tells which rule is broken first. A description can't be changed.
+    FormatError says which rule is broken first. A description can't be changed.
 
     >>> Fixed("i64", places=2, point=",", group=".")
     Fixed('i64', places=2, point=',', group='.')

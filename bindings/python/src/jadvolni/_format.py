@@ -1,4 +1,4 @@
-"""Formats: what a text may look like."""
+"""Formats: which texts are numbers."""
 
 from __future__ import annotations
 
@@ -41,7 +41,7 @@ def byte_of_punctuation(name: str, value: object, none: str = "") -> Optional[in
 
 @dataclasses.dataclass(frozen=True, kw_only=True, repr=False, eq=False)
 class Format:
-    """What a text may look like. A format can't be changed, and one that breaks a rule isn't made.
+    """Which texts are numbers. A format can't be changed, and one that breaks a rule isn't made.
 
     mantissa_radix: The radix, from 2 to 36. Digits above 9 are letters, in either case.
     digit_separator: A byte that is ignored among the digits: "_" in "1_000". The flags on
@@ -76,8 +76,8 @@ class Format:
         and "08" ends after its zero. "1007" and "_017" are decimal, and a prefix takes precedence.
         The radix of the format must be 10.
 
-    FormatError tells which rule a format breaks. A field that changes nothing without another, as
-    `integer_leading_digit_separator` without `digit_separator`, is a ValueError.
+    FormatError tells which rule a format breaks. A field that has no effect without another, such
+    as `integer_leading_digit_separator` without `digit_separator`, is a ValueError.
 
     >>> Format(mantissa_radix=16, base_prefix="x")
     Format(mantissa_radix=16, base_prefix='x')

@@ -13,10 +13,10 @@ if TYPE_CHECKING:
 
 
 class Sparse(NamedTuple):
-    """The numbers of a column that may miss some, which are 0, and the bits that say where.
+    """The numbers of a column that may miss some, which are 0, and the bits that say which.
 
-    The bits are Arrow's: the bit k & 7 of byte k >> 3, where bit 0 is the lowest, is 1 if row k has
-    a number. Arrow's libraries take the column as it is, by `__arrow_c_array__`.
+    The bits are in Arrow's order: bit k & 7 of byte k >> 3, where bit 0 is the lowest, is 1 if row
+    k has a number. Arrow's libraries accept the column as it is, by `__arrow_c_array__`.
     """
 
     numbers: Any
@@ -24,7 +24,7 @@ class Sparse(NamedTuple):
 
     @property
     def present(self) -> Any:
-        """Whether each row has a number: an array of NumPy where it is installed, else a list."""
+        """Whether each row has a number: a NumPy array if NumPy is installed, otherwise a list."""
         count = len(self.numbers)
         try:
             import numpy
@@ -34,7 +34,7 @@ class Sparse(NamedTuple):
         return numpy.unpackbits(bits, count=count, bitorder="little").view(bool)
 
     def to_numpy(self) -> numpy.ma.MaskedArray[Any, Any]:
-        """The numbers as a masked array over the same memory, whose mask is where one is missing.
+        """The numbers as a masked array over the same memory; the mask is set where one is missing.
 
         So the mean of 5 and a missing number is 5.
         """
@@ -45,7 +45,7 @@ class Sparse(NamedTuple):
         return found
 
     def to_pandas(self) -> pandas.Series[Any]:
-        """The numbers as a Series of pandas over the same memory, as of Int64, with its mask."""
+        """The numbers as a pandas Series over the same memory, such as Int64, with its mask."""
         import pandas
 
         return pandas.Series(_extension_array(self), copy=False)
@@ -58,27 +58,26 @@ class Sparse(NamedTuple):
 
 
 class Table(dict[str, Any]):
-    """The columns that were read, by their names: each an array, NumPy's where it is installed and
-    else of the module array; or a Sparse of them where numbers may be missing. One of texts is a
-    TextColumn.
+    """The columns that were read, by their names: each an array, of NumPy if it is installed and
+    otherwise of the module array, or a Sparse of them if numbers may be missing. A column of texts
+    is a TextColumn.
 
-    None of its calls copies a number.
+    No method copies a number.
     """
 
     # How many bad rows were skipped.
     bad_rows = 0
 
     def to_numpy(self) -> dict[str, Any]:
-        """Each column as an array of NumPy, and as a masked one where numbers may be missing. Texts
-        are objects."""
+        """Each column as a NumPy array, masked if numbers may be missing. Texts are objects."""
         import numpy
 
         return {name: values.to_numpy() if isinstance(values, (Sparse, TextColumn))
                 else numpy.asarray(values) for name, values in self.items()}
 
     def to_pandas(self, categories: Union[bool, Collection[str]] = False) -> pandas.DataFrame:
-        """A DataFrame of pandas. Where numbers may be missing, a column is one of Int64 or so.
-        Texts are objects; or categories: with True all of them, or those of a set of names."""
+        """A pandas DataFrame. If numbers may be missing, a column is Int64 or the like. Texts are
+        objects, or categories: all of them with True, or those in a set of names."""
         import pandas
 
         chosen = self._chosen(categories)
@@ -99,7 +98,7 @@ class Table(dict[str, Any]):
         return categories
 
     def arrow(self, name: Optional[str] = None) -> Arrow:
-        """The table, or its column of a name, for what takes Arrow's capsules and is no dict."""
+        """The table, or one of its columns, for what accepts Arrow's capsules but isn't a dict."""
         return ArrowTable(self) if name is None else Arrow({name: self[name]}, False)
 
     def __arrow_c_schema__(self) -> object:

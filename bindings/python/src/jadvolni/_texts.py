@@ -23,16 +23,16 @@ if TYPE_CHECKING:
 
 @dataclasses.dataclass(frozen=True)
 class Text:
-    """What is read of a column whose cells are texts, of any bytes. Calls on tables take it in the
-    place of a type, and give a TextColumn.
+    """The type of a column whose cells are texts, of any bytes. Calls on tables accept it as a
+    type, and return a TextColumn.
 
-    A text is what stands within the quotes of a cell that has them, where a table has quotes: each
-    doubled quote there is told as one. Blanks are part of it, also where a table allows them. In a
-    Column with may_miss the text that is byte for byte the table's `missing` is None.
+    If a table has quotes, and a cell is enclosed in them, the text is what is within, with each
+    doubled quote as one. Blanks are part of it, even if a table allows them. In a Column with
+    may_miss a text that is exactly the table's `missing` is None.
 
-    encoding: How its bytes are read, as "cp1252". With None they are told as bytes.
+    encoding: The encoding of the bytes, such as "cp1252". With None the texts are bytes.
 
-    LookupError tells of an encoding that Python hasn't.
+    LookupError is raised for an encoding that Python doesn't have.
     """
 
     encoding: Optional[str] = "utf-8"
@@ -58,11 +58,11 @@ class Room(NamedTuple):
 class TextColumn(Sequence["Cell"]):
     """The texts of a column, a sequence of str, with None for each that is missing.
 
-    They are decoded as they are asked for: UnicodeDecodeError then tells of bytes that the encoding
-    hasn't. Where it is None, they are bytes.
+    They are decoded when asked for; UnicodeDecodeError is then raised for bytes that the encoding
+    doesn't have. If the encoding is None, they are bytes.
 
-    data: The bytes of all texts, behind each other. offsets: Where each one starts in them, and
-    where the last one stops. bits: As those of a Sparse, or None where no text may be missing.
+    data: The bytes of all texts, one after another. offsets: Where each starts in them, and where
+    the last one stops. bits: Those of a Sparse, or None if no text may be missing.
     These are laid out as Arrow has them. A part by `column[1:3]` is a list.
     """
 
@@ -113,7 +113,7 @@ class TextColumn(Sequence["Cell"]):
         return list(self) if found is None else found
 
     def to_numpy(self) -> numpy.ndarray[Any, Any]:
-        """The texts as an array of NumPy, of objects."""
+        """The texts as a NumPy array of objects."""
         import numpy
 
         found = numpy.empty(len(self), object)
@@ -121,7 +121,7 @@ class TextColumn(Sequence["Cell"]):
         return found
 
     def to_pandas(self, categories: bool = False) -> pandas.Series[Any]:
-        """The texts as a Series of pandas: of objects, or of categories, which are sorted."""
+        """The texts as a pandas Series: of objects, or of categories, which are sorted."""
         import pandas
 
         if categories:
@@ -129,7 +129,7 @@ class TextColumn(Sequence["Cell"]):
         return pandas.Series(self.to_numpy(), dtype=object)
 
     def categorical(self) -> pandas.Categorical:
-        """The texts as pandas has a few that come again and again: as numbers of categories."""
+        """The texts as a pandas Categorical, for few that come again and again."""
         import pandas
 
         seen: dict[Cell, Cell] = {}  # (so that equal texts are one object)

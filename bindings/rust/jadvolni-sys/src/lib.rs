@@ -15,7 +15,7 @@ pub struct jadvolni_result {
     pub place: usize,
 }
 
-/// A format, byte by byte. The reserved bytes and bits have to be 0.
+/// A format, byte by byte. The reserved bytes and bits must be 0.
 #[repr(C)]
 #[derive(Debug, Copy, Clone, PartialEq, Eq, Hash)]
 pub struct jadvolni_format {
@@ -57,7 +57,7 @@ pub struct jadvolni_int128 {
     pub high: i64,
 }
 
-/// How a table is written. The reserved bytes have to be 0.
+/// How a table is written. The reserved bytes must be 0.
 #[repr(C)]
 #[derive(Debug, Copy, Clone, PartialEq, Eq)]
 pub struct jadvolni_table {
@@ -83,7 +83,7 @@ pub struct jadvolni_array<T> {
     pub capacity: usize,
 }
 
-/// Where a text stands that a cell holds.
+/// Where the text of a cell is.
 #[repr(C)]
 #[derive(Debug, Copy, Clone, PartialEq, Eq)]
 pub struct jadvolni_cell_text {
@@ -92,8 +92,8 @@ pub struct jadvolni_cell_text {
     pub has_doubled_quotes: u8,
 }
 
-/// A column of a table. One array has room, or none has, and then the format's radix is 0. Numbers have places where
-/// `places` isn't 0. The reserved bytes have to be 0.
+/// A column of a table. One array has room, or none has, and then the format's radix is 0. If `places` isn't 0, the
+/// numbers are fixed-point numbers. The reserved bytes must be 0.
 #[repr(C)]
 #[derive(Debug, Copy, Clone, PartialEq, Eq)]
 pub struct jadvolni_table_column {
@@ -114,7 +114,7 @@ pub struct jadvolni_table_column {
     pub present: jadvolni_array<u8>,
 }
 
-/// What is answered of a table.
+/// What the call on a table returns.
 #[repr(C)]
 #[derive(Debug, Copy, Clone, PartialEq, Eq)]
 pub struct jadvolni_table_result {
@@ -133,7 +133,7 @@ pub struct jadvolni_row_result {
     pub stop: usize,
 }
 
-/// Where a cell is, with its quotes and blanks.
+/// Where a cell is, including its quotes and blanks.
 #[repr(C)]
 #[derive(Debug, Copy, Clone, PartialEq, Eq, Default)]
 pub struct jadvolni_cell_place {
@@ -149,7 +149,7 @@ pub struct jadvolni_cells_result {
     pub count: usize,
 }
 
-/// A row at fault.
+/// A bad row.
 #[repr(C)]
 #[derive(Debug, Copy, Clone, PartialEq, Eq)]
 pub struct jadvolni_bad_row {
@@ -162,7 +162,7 @@ pub struct jadvolni_bad_row {
     pub stop: usize,
 }
 
-/// What is answered of a table whose bad rows are skipped.
+/// What the call that skips bad rows returns.
 #[repr(C)]
 #[derive(Debug, Copy, Clone, PartialEq, Eq)]
 pub struct jadvolni_skipping_result {
@@ -192,7 +192,7 @@ pub struct jadvolni_position {
     pub column: usize,
 }
 
-/// An entry of a table of suffixes. The type is one of those below, and the reserved bytes have to be 0.
+/// An entry of a table of suffixes. The type is one of those below, and the reserved bytes must be 0.
 #[repr(C)]
 #[derive(Debug, Copy, Clone, PartialEq, Eq)]
 pub struct jadvolni_suffix {

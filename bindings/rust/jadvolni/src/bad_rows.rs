@@ -1,4 +1,4 @@
-//! Rows at fault: where one is, and tables whose bad rows are skipped.
+//! Bad rows: where one is, and tables whose bad rows are skipped.
 
 use crate::table_column::call_on_rows;
 use crate::{Dialect, Error, TableColumn, TableError, TableFault};
@@ -6,15 +6,15 @@ use core::fmt;
 use core::ops::Range;
 use jadvolni_sys as sys;
 
-/// A row at fault: its number, what is wrong with its first wrong cell, and where the row is.
+/// A bad row: its number, its first fault, and where the row is.
 ///
-/// Its text is what a [`TableError`] says. [`BadRow::in_text`] tells its line and its cell too.
+/// Displayed, it is the message of a [`TableError`]. [`BadRow::in_text`] also finds its line and its cell.
 #[derive(Copy, Clone, PartialEq, Eq)]
 #[repr(transparent)]
 pub struct BadRow(sys::jadvolni_bad_row);
 
 impl BadRow {
-    /// What stands in a slice before a call has written there.
+    /// The value of an element of a slice before a call has written to it.
     pub const NONE: BadRow = BadRow(sys::jadvolni_bad_row {
         status: 0,
         reserved: [0; 20],
@@ -25,33 +25,33 @@ impl BadRow {
         stop: 0,
     });
 
-    /// The number of the row among all, right and bad, counted from 0.
+    /// The number of the row among all, good and bad, from 0.
     pub fn row(&self) -> usize {
         self.0.row
     }
 
-    /// The column of the fault, counted from 0: so many cells of the row are right.
+    /// The column of the fault, from 0: as many cells of the row are good.
     pub fn column(&self) -> usize {
         self.0.column
     }
 
-    /// What is wrong, with its place in the text. Of [`BadRow::NONE`] it is [`Error::Unknown`].
+    /// What is wrong, with its place in the text. For [`BadRow::NONE`] it is [`Error::Unknown`].
     pub fn error(&self) -> Error {
         let outcome = sys::jadvolni_result { status: self.0.status, place: self.0.place };
         Error::of(outcome).unwrap_or(Error::Unknown(0))
     }
 
-    /// The place at which the row starts.
+    /// The place where the row starts.
     pub fn start(&self) -> usize {
         self.0.start
     }
 
-    /// The place behind the row, what ends it, and the empty rows behind it that are skipped.
+    /// The place after the row, its line end, and the empty rows after it that are skipped.
     pub fn stop(&self) -> usize {
         self.0.stop
     }
 
-    /// This row of a part of a text as one of the text, in which so many rows and bytes stand before the part.
+    /// This row of a part of a text, as one of the whole text, which has `rows` rows and `bytes` bytes before the part.
     pub fn behind(mut self, rows: usize, bytes: usize) -> BadRow {
         self.0.row = self.0.row.saturating_add(rows);
         for place in [&mut self.0.place, &mut self.0.start, &mut self.0.stop] {
@@ -60,7 +60,7 @@ impl BadRow {
         self
     }
 
-    /// What the text tells of the fault, in which its places count: its line, and its cell.
+    /// The fault with its line and its cell. `text` is the one in which its places count.
     pub fn in_text(&self, text: impl AsRef<[u8]>, dialect: &Dialect<'_>) -> TableFault {
         TableFault::in_text(TableError::from(*self), self.start(), text.as_ref(), dialect)
     }
@@ -93,25 +93,25 @@ impl fmt::Display for BadRow {
     }
 }
 
-/// How far a table was read whose bad rows were skipped.
+/// How far a table was read, if bad rows were skipped.
 #[derive(Debug, Copy, Clone, PartialEq, Eq)]
 pub struct Skipping<'b> {
-    /// How many right rows were read.
+    /// How many good rows were read.
     pub rows: usize,
-    /// How many bad rows were skipped, also those that had no room.
+    /// How many bad rows were skipped, including those that had no room.
     pub bad_rows: usize,
-    /// The bad rows, in order, as far as there was room.
+    /// The bad rows, in order, as long as there was room.
     pub bad: &'b [BadRow],
-    /// Where reading stopped: the text's end, or the start of the row behind the last right one that had room.
+    /// Where reading stopped: the text's end, or the start of the row after the last good one that had room.
     pub stop: usize,
 }
 
-/// Reads the rows of a text, but skips and counts those at fault. What is known of these goes to a slice, as far as it
-/// has room.
+/// Reads the rows of a text, but skips the bad ones and counts them. They are described in a slice, as long as it has
+/// room.
 ///
-/// The right rows are stored one behind another, all of them and no other. A bad row is read up to its fault, into the
-/// place of the next right one: so where there is room behind the last row, the place there may have changed in each
-/// slice. A fault is what is wrong with the table or with a column.
+/// All good rows are stored, and no others, without gaps. A bad row is read up to its fault, into the elements of the
+/// next good one: so if there is room after the last row, the element there may have changed in each slice. The error
+/// is a fault of the table or of a column.
 ///
 /// ```
 /// use jadvolni::{parse_table_skipping, BadRow, Dialect, Error, TableColumn};
@@ -138,11 +138,11 @@ pub fn parse_table_skipping<'b>(
     parse_table_part_skipping(text, true, dialect, columns, bad)
 }
 
-/// Reads the whole rows of a part of a text, as a block of a file, and all of it where it is the last part, but skips
-/// and counts those at fault.
+/// Reads the rows of a part of a text, such as a block of a file, but skips the bad ones and counts them: the whole
+/// rows, or all if it is the last part.
 ///
-/// Put the bytes from `stop` on in front of the next part. Rows and places count from the part's start:
-/// [`BadRow::behind`] has those of the text.
+/// Put the bytes from `stop` on in front of the next part. Rows and places count from the start of the part;
+/// [`BadRow::behind`] makes them those of the text.
 pub fn parse_table_part_skipping<'b>(
     text: impl AsRef<[u8]>,
     is_last: bool,
@@ -167,10 +167,10 @@ pub fn parse_table_part_skipping<'b>(
     }
 }
 
-/// Where the row of a number stands, counted from 0, with what ends it and the empty rows behind it that are skipped.
+/// Where the row with a number, from 0, is, with its line end and the empty rows after it that are skipped.
 ///
-/// Where the text has no such row it is empty, at the text's end. A quote that nothing closes ends there, and so does
-/// its row. The time is that of a walk over the text up to the row. A fault is one of the table.
+/// If the text has no such row, the range is empty, at the text's end. A quote that is never closed extends to the end,
+/// and so does its row. It takes the time to scan the text up to the row. The error is a fault of the table.
 ///
 /// ```
 /// use jadvolni::{row_place, Dialect};

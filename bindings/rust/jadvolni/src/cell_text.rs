@@ -1,4 +1,4 @@
-//! Texts of a table: where one stands that a cell holds, its bytes, and these with one quote for each two.
+//! Texts of a table: where the text of a cell is, its bytes, and these with each doubled quote as one.
 
 #[cfg(feature = "std")]
 extern crate std;
@@ -8,16 +8,16 @@ use jadvolni_sys as sys;
 #[cfg(feature = "std")]
 use std::{borrow::Cow, vec::Vec};
 
-/// Where a text stands that a cell holds: within the quotes of a cell that has them, and with its blanks.
+/// Where the text of a cell is: within its quotes if it has them, and including its blanks.
 ///
-/// It goes to the slice of [`TableColumn::of_texts`](crate::TableColumn::of_texts). Its places count bytes from the
-/// start of what was read, and that is what its bytes are taken from.
+/// It is stored in the slice of [`TableColumn::of_texts`](crate::TableColumn::of_texts). Its places count bytes from
+/// the start of what was read, from which its bytes are taken.
 #[derive(Copy, Clone, PartialEq, Eq)]
 #[repr(transparent)]
 pub struct CellText(sys::jadvolni_cell_text);
 
 impl CellText {
-    /// What stands in a slice before a call has written there, and for a missing text: no bytes, at place 0.
+    /// The value of an element of a slice before a call has written to it, and of a missing text: no bytes, at place 0.
     pub const NONE: CellText =
         CellText(sys::jadvolni_cell_text { start: 0, size: 0, has_doubled_quotes: 0 });
 
@@ -26,18 +26,18 @@ impl CellText {
         self.0.start
     }
 
-    /// The place behind its last byte.
+    /// The place after its last byte.
     pub fn stop(&self) -> usize {
         self.0.start.saturating_add(self.0.size)
     }
 
-    /// Whether doubled quotes stand in it, of which each two stand for one.
+    /// Whether it contains doubled quotes, each of which stands for one.
     pub fn has_doubled_quotes(&self) -> bool {
         self.0.has_doubled_quotes != 0
     }
 
-    /// The bytes of the text, with quotes doubled as they stand there. It takes what the table was read from: where
-    /// other bytes have no such place, there are none.
+    /// The bytes of the text, in which quotes are still doubled. `text` is what the table was read from; if it doesn't
+    /// have the place, the result is empty.
     ///
     /// ```
     /// use jadvolni::{parse_table, CellText, Dialect, TableColumn};
@@ -51,9 +51,9 @@ impl CellText {
         text.as_ref().get(self.start()..self.stop()).unwrap_or(&[])
     }
 
-    /// The bytes with one quote for each two. Where none is doubled they are those of [`CellText::of`], and else they
-    /// are written to the front of a slice. `None` if that has no room, and then nothing is written: as many bytes as
-    /// the text has are enough.
+    /// The bytes with each doubled quote as one. If there are none, they are those of [`CellText::of`]; otherwise they
+    /// are written to the beginning of a slice, where as many bytes as the text has are enough. If there are too few,
+    /// the result is `None`, and nothing is written.
     ///
     /// ```
     /// use jadvolni::{parse_table, CellText, Dialect, TableColumn};
@@ -78,8 +78,7 @@ impl CellText {
         room.get(..size)
     }
 
-    /// The bytes with one quote for each two, with the feature `std`. Memory is taken where one is doubled, and nowhere
-    /// else.
+    /// The bytes with each doubled quote as one, with the feature `std`. It allocates only if there are doubled quotes.
     ///
     /// ```
     /// use jadvolni::{parse_table, CellText, Dialect, TableColumn};
@@ -121,15 +120,15 @@ impl fmt::Debug for CellText {
     }
 }
 
-/// Writes a text with one quote for each two, and answers how many bytes that has: at most as many as the text. Where
-/// there is no room for them, nothing is written.
+/// Copies a text with each doubled quote as one, and returns how many bytes that takes: at most as many as the text
+/// has. If there is no room for them, nothing is written.
 fn fold_quotes(text: &[u8], folded: &mut [u8]) -> usize {
     let (first, room) = (folded.as_mut_ptr().cast(), folded.len());
     // SAFETY: the pointers are those of slices with their lengths, of which the second is this call's alone.
     unsafe { sys::jadvolni_fold_quotes(text.as_ptr().cast(), text.len(), first, room) }
 }
 
-/// A text with one quote for each two.
+/// A text with each doubled quote as one.
 #[cfg(feature = "std")]
 pub(crate) fn folded(text: &[u8]) -> Vec<u8> {
     let mut folded = text.to_vec();

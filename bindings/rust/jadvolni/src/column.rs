@@ -18,8 +18,8 @@ type ColumnCall<T> = unsafe extern "C" fn(
     *mut usize,
 ) -> sys::jadvolni_result;
 
-/// The library's call for columns of a type. It reads the text and the format that it is handed,
-/// writes to the slice and the count at most, and keeps nothing.
+/// The library's call for columns of a type. It reads the text and the format that it is passed, writes at most to the
+/// slice and the count, and keeps nothing.
 pub trait ColumnCalls: Sized {
     const COLUMN: ColumnCall<Self>;
 }
@@ -29,29 +29,28 @@ pub trait ColumnCalls: Sized {
 pub struct Column {
     /// How many numbers were read.
     pub count: usize,
-    /// Where reading stopped: the text's end, or the start of the first field for which the slice had
-    /// no room.
+    /// Where reading stopped: the text's end, or the start of the first field that had no room in the slice.
     pub stop: usize,
 }
 
 /// Why a column isn't read to its end.
 #[derive(Debug, Copy, Clone, PartialEq, Eq)]
 pub enum ColumnError {
-    /// The format is invalid, or the dialect is that of no column, and nothing was read.
+    /// The format is invalid, or the dialect isn't that of a column; nothing was read.
     InvalidFormat(Error),
-    /// A field is no number of the type. It is the first such one, and all before it were read.
+    /// A field isn't a number of the type. It is the first such field, and all before it were read.
     InvalidField {
-        /// Which field it is, counted from 0: so many numbers were read.
+        /// The index of the field, from 0: as many numbers were read.
         field: usize,
-        /// The place in the text at which it starts.
+        /// The place in the text where it starts.
         start: usize,
-        /// Its fault, whose place counts from the text's start.
+        /// Its fault, whose place counts from the start of the text.
         error: Error,
     },
 }
 
 impl fmt::Display for ColumnError {
-    /// The fault, and the field that has it, counted from 1: `overflow at byte 5, in field 2`.
+    /// The fault, and its field, counted from 1: `overflow at byte 5, in field 2`.
     fn fmt(&self, f: &mut fmt::Formatter<'_>) -> fmt::Result {
         match self {
             ColumnError::InvalidFormat(error) => error.fmt(f),
@@ -70,7 +69,7 @@ impl ColumnError {
         }
     }
 
-    /// The line and the column of the fault's byte in its text, as of [`Error::position`].
+    /// The line and the column of the fault's byte in the text, as by [`Error::position`].
     pub fn position(&self, text: impl AsRef<[u8]>) -> Option<Position> {
         self.error().position(text)
     }
@@ -78,13 +77,13 @@ impl ColumnError {
 
 impl core::error::Error for ColumnError {}
 
-/// Reads the numbers of the text's fields between a separator, which may be any byte, as far as the
-/// slice has room. A last separator ends no further field.
+/// Reads the numbers of the text's fields into the slice, as long as there is room. A separator, which may be any byte,
+/// is between two fields; one at the end starts no further field.
 ///
-/// The numbers are at the slice's front, and the rest of it is as it was, also after a fault. What has
-/// no room isn't looked at: a call on the text from `stop` on goes on exactly there.
+/// The numbers are at the beginning of the slice, and the rest of it is unchanged, even after a fault. Fields without
+/// room aren't looked at: a call on the text from `stop` on continues exactly there.
 ///
-/// Lines with returns, blanks, missing numbers or amounts are for
+/// For lines with carriage returns, blanks, missing numbers or amounts use
 /// [`parse_column_with_dialect`](crate::parse_column_with_dialect).
 ///
 /// ```
@@ -105,7 +104,7 @@ pub fn parse_column<T: ColumnInteger>(
     parse_column_with_format(text, separator, &Format::STANDARD, values)
 }
 
-/// Reads the numbers of the text's fields under a format, which is looked at first.
+/// Reads the numbers of the text's fields under a format, which is checked first.
 ///
 /// ```
 /// use jadvolni::{parse_column_with_format, Column, Format};
@@ -145,11 +144,11 @@ pub fn parse_column_with_format<T: ColumnInteger>(
     }
 }
 
-/// Reads the numbers in the whole fields of a part of a text, as a block of a file, and in all of it where it is the
-/// last part.
+/// Reads the numbers of a part of a text, such as a block of a file: of its whole fields, or of all if it is the last
+/// part.
 ///
-/// Put the bytes from `stop` on in front of the next part: read so, all parts give the numbers of the whole text.
-/// Where the slice is full, `stop` is the start of the next field, as ever. Places count from the part's start.
+/// Put the bytes from `stop` on in front of the next part: then all parts give the numbers of the whole text. If the
+/// slice is full, `stop` is the start of the next field, as usual. Places count from the start of the part.
 ///
 /// ```
 /// use jadvolni::{parse_column_part, Column};
@@ -168,7 +167,7 @@ pub fn parse_column_part<T: ColumnInteger>(
     parse_column_part_with_format(text, is_last, separator, &Format::STANDARD, values)
 }
 
-/// Reads the numbers of a part of a text under a format, which is looked at first.
+/// Reads the numbers of a part of a text under a format, which is checked first.
 ///
 /// ```
 /// use jadvolni::{parse_column_part_with_format, Column, Format};
@@ -188,8 +187,8 @@ pub fn parse_column_part_with_format<T: ColumnInteger>(
     parse_column_with_format(&text[..whole], separator, format, values)
 }
 
-/// Where the field starts that a text ends in: behind its last separator, or at 0. Of a block that more
-/// follows it is how many bytes are whole fields.
+/// Where the last field of the text starts: after its last separator, or at 0. For a block that isn't the file's last,
+/// that is how many bytes are whole fields.
 ///
 /// ```
 /// assert_eq!(jadvolni::field_start("12\n34\n5", b'\n'), 6);

@@ -9,21 +9,19 @@ use jadvolni_sys::{jadvolni_line_column, jadvolni_result};
 #[derive(Debug, Copy, Clone, PartialEq, Eq, Hash)]
 #[non_exhaustive]
 pub enum Error {
-    /// The number is greater than the type's greatest. The place is that of the digit with which it
-    /// leaves the type.
+    /// The number is greater than the type's maximum. The place is that of the first digit at which it leaves the type.
     Overflow(usize),
-    /// The number is less than the type's least. The place is that of the digit with which it leaves
-    /// the type.
+    /// The number is less than the type's minimum. The place is that of the first digit at which it leaves the type.
     Underflow(usize),
-    /// The text goes on at the place where the number has ended.
+    /// The text continues after the number, at the place.
     InvalidDigit(usize),
     /// A digit is missing at the place.
     Empty(usize),
     /// The format requires a sign. The place is 0.
     MissingSign(usize),
-    /// The format forbids the plus. The place is 0.
+    /// The format forbids the plus sign. The place is 0.
     InvalidPositiveSign(usize),
-    /// The format forbids the zero at the place, before another digit.
+    /// The format forbids leading zeros, and one is at the place.
     InvalidLeadingZeros(usize),
     /// The format's radix isn't from 2 to 36.
     InvalidMantissaRadix,
@@ -33,38 +31,38 @@ pub enum Error {
     InvalidBasePrefix,
     /// The format's suffix isn't ASCII, or it is `+`, `-` or a digit.
     InvalidBaseSuffix,
-    /// Two of separator, prefix and suffix are alike.
+    /// Two of the format's separator, prefix and suffix are the same byte, or a letter in two cases.
     InvalidPunctuation,
-    /// The format can't have literal prefixes beside its radix, prefix, separator or suffix.
+    /// The format can't have literal prefixes or octal zeros with its radix, prefix, separator or suffix.
     InvalidLiteralPrefixes,
     /// A row of a table has fewer cells than there are columns. The place is where it ends.
     TooFewCells(usize),
-    /// A row of a table has more cells. The place is where the first one too many starts.
+    /// A row of a table has more cells than there are columns. The place is where the first one too many starts.
     TooManyCells(usize),
-    /// The line feed at the place has no carriage return before it, and the table has returns.
+    /// The table has returns, and the line feed at the place has no carriage return before it.
     MissingReturn(usize),
-    /// A table has widths, and not one for each column, or its rows are records, and it has none.
+    /// The number of a table's widths isn't that of its columns, or its rows are records and it has no widths.
     InvalidTable,
-    /// A quote of a cell at the place is out of place, or within a number, or is never closed.
+    /// The quote at the place is misplaced in its cell, stands within a number, or is never closed.
     MisplacedQuote(usize),
-    /// Fixed-point numbers have a radix other than 10.
+    /// The radix of fixed-point numbers isn't 10.
     InvalidFixedRadix,
     /// Fixed-point numbers have a prefix, a suffix, literal prefixes or octal zeros.
     InvalidFixedAffix,
-    /// The point of fixed-point numbers is a digit, a sign, or the separator of their integer part.
+    /// The decimal point is a digit, a sign, or the separator of the integer part.
     InvalidPoint,
-    /// Fixed-point numbers have more than 38 places.
+    /// Fixed-point numbers have more than 38 decimal places.
     InvalidPlaces,
-    /// No entry of a table of suffixes has the suffix of a literal. The place is where the suffix begins.
+    /// No entry of a table of suffixes has the literal's suffix. The place is where the suffix begins.
     UnknownSuffix(usize),
-    /// An entry of a table of suffixes names no type, which none of this crate's does.
+    /// An entry of a table of suffixes names no type; entries of this crate always do.
     InvalidSuffixTable,
     /// A status that only a later library has.
     Unknown(u32),
 }
 
 impl Error {
-    /// What a call has answered: `None` where it read a number.
+    /// What a call returned: `None` if it read a number.
     #[inline]
     pub(crate) fn of(outcome: jadvolni_result) -> Option<Error> {
         Some(match outcome.status {
@@ -103,7 +101,7 @@ impl Error {
         same.place_mut().copied()
     }
 
-    /// What is wrong, without its place: `overflow`. A fault of a format says what the field has to be.
+    /// What is wrong, without its place: `overflow`. For a format, what the field has to be.
     ///
     /// ```
     /// let error = jadvolni::parse::<u8>("256").unwrap_err();
@@ -158,8 +156,8 @@ impl Error {
         }
     }
 
-    /// The line and the column of a fault of a text, and `None` for one of the format or of the table. The text is that
-    /// in which the place counts.
+    /// The line and the column of a fault of a text, and `None` for one of the format or of the table. `text` is the
+    /// one in which its place counts.
     ///
     /// ```
     /// use jadvolni::{parse_column, Position};
@@ -191,7 +189,7 @@ impl Error {
         }
     }
 
-    /// This fault of a text, where the text stands so many bytes further on.
+    /// This fault if the text starts `by` bytes further on.
     pub(crate) fn moved(mut self, by: usize) -> Error {
         if let Some(place) = self.place_mut() {
             *place = place.saturating_add(by);
@@ -213,17 +211,17 @@ impl fmt::Display for Error {
 
 impl core::error::Error for Error {}
 
-/// Line and column of a byte of a text, both counted from 0. Its text has them as an editor counts, from 1.
+/// Line and column of a byte of a text, both from 0. Displayed, they count from 1, as in an editor.
 #[derive(Debug, Copy, Clone, PartialEq, Eq, Hash)]
 pub struct Position {
-    /// The line: so many line feeds stand before the byte.
+    /// The line: the number of line feeds before the byte.
     pub line: usize,
-    /// The column: so many bytes stand behind the last of these. It counts bytes, as compilers do.
+    /// The column: the number of bytes after the last of these. It counts bytes, as compilers do.
     pub column: usize,
 }
 
 impl Position {
-    /// That of the byte at a place, which counts from 0; of a place behind the text's end that of the end.
+    /// The position of the byte at a place, which counts from 0. A place past the end of the text counts as its end.
     ///
     /// ```
     /// use jadvolni::Position;

@@ -1,9 +1,9 @@
-//! Fixed-point numbers, as amounts of money.
+//! Fixed-point numbers, such as amounts of money.
 
 use crate::{integer, Error, Format, Integer};
 use jadvolni_sys as sys;
 
-/// How fixed-point numbers are written: an integer part, and digits behind a point.
+/// How fixed-point numbers are written: an integer part, and decimal places after a point.
 ///
 /// Begin with [`Fixed::of_places`], and set what differs.
 ///
@@ -14,13 +14,13 @@ use jadvolni_sys as sys;
 /// assert_eq!(parse_fixed::<i64>("12,505", &AMOUNT), Err(Error::InvalidDigit(5)));
 /// ```
 ///
-/// Anything may be set: the calls refuse a description that breaks a rule, and `error` tells it beforehand.
+/// Any values may be set: the calls refuse a description that breaks a rule, and `error` checks it in advance.
 #[derive(Debug, Copy, Clone, PartialEq, Eq, Hash)]
 pub struct Fixed(pub(crate) sys::jadvolni_fixed);
 
 impl Fixed {
-    /// Numbers with so many digits behind a point, at most 38, which are told in units of the last one: with two places
-    /// `12.50` is 1250. With none no point is read. The integer part has the standard format.
+    /// Numbers with a fixed number of decimal places, at most 38, in units of the last one: with two places `12.50` is
+    /// 1250. With 0 places no point is read. The integer part has the standard format.
     #[must_use]
     pub const fn of_places(places: u8) -> Fixed {
         let integer = Format::STANDARD.0;
@@ -33,37 +33,37 @@ impl Fixed {
         })
     }
 
-    /// What the integer part looks like: its sign, its separators, its zeros. Its radix is 10, for which 0 stands with
-    /// a digit required, and it has neither prefix, suffix, literal prefixes nor octal zeros.
+    /// What the integer part looks like: its sign, separators and leading zeros. Its radix is 10, or 0, which means 10
+    /// and a required digit. It has no prefix, no suffix, and neither literal prefixes nor octal zeros.
     #[must_use]
     pub const fn integer(mut self, format: Format) -> Fixed {
         self.0.integer = format.0;
         self
     }
 
-    /// A byte that may stand between two digits of the integer part, where it counts for nothing: `.` in `1.234,50`.
+    /// A byte that is ignored between two digits of the integer part: `.` in `1.234,50`.
     #[must_use]
     pub const fn group_separator(self, byte: Option<u8>) -> Fixed {
         let format = Format(self.0.integer);
         self.integer(format.digit_separator(byte).integer_internal_digit_separator(byte.is_some()))
     }
 
-    /// The byte before the fraction, which is no digit, no sign and not the separator; 0 is `.`, which it is at first.
+    /// The byte before the decimal places, by default `.`, which 0 also means. It isn't a digit, a sign or the
+    /// separator.
     #[must_use]
     pub const fn point(mut self, byte: u8) -> Fixed {
         self.0.point = byte;
         self
     }
 
-    /// Whether fewer digits are taken than there are places, as if zeros stood for the others, and none without a
-    /// point.
+    /// Whether fewer digits than places are accepted, as if zeros followed; with none, the point is left out too.
     #[must_use]
     pub const fn takes_fewer(mut self, is_set: bool) -> Fixed {
         self.0.takes_fewer = is_set as u8;
         self
     }
 
-    /// The first rule that the description breaks, and `None` where it breaks none.
+    /// The first rule that the description breaks, or `None`.
     ///
     /// ```
     /// use jadvolni::{Error, Fixed};
@@ -77,10 +77,10 @@ impl Fixed {
     }
 }
 
-/// The fixed-point number that the whole text is, as a `T` in units of the last place.
+/// Reads the whole text as a fixed-point number, as a `T` in units of the last place.
 ///
-/// It is exact, or there is a fault, and nothing is rounded. The type's end is told by the digit with which it is
-/// passed, and by the place behind the text where only zeros pass it that aren't written.
+/// The number is exact, or there is a fault; nothing is rounded. If it leaves the type, the place is that of the digit
+/// at which it does, or the text's end if only zeros that aren't written make it leave.
 ///
 /// ```
 /// use jadvolni::{parse_fixed, Error, Fixed};
@@ -96,9 +96,9 @@ pub fn parse_fixed<T: Integer>(text: impl AsRef<[u8]>, fixed: &Fixed) -> Result<
     integer::fixed(text.as_ref(), fixed)
 }
 
-/// The fixed-point number in front of the text as a `T`, and where reading stopped.
+/// Reads the fixed-point number at the beginning of the text as a `T`, and returns where reading stopped too.
 ///
-/// A point without a digit behind it isn't read where fewer places are taken. A digit behind the last place is a fault.
+/// A digit after the last place is a fault. If fewer places are accepted, a point that no digit follows isn't read.
 ///
 /// ```
 /// use jadvolni::{parse_fixed_front, Error, Fixed};

@@ -1,9 +1,9 @@
-//! What a text may look like.
+//! Formats: which texts are numbers.
 
 use crate::Error;
 use jadvolni_sys as sys;
 
-/// What a text may look like. Begin with one of the constants, and set what differs.
+/// Which texts are numbers. Begin with one of the constants, and set what differs.
 ///
 /// ```
 /// use jadvolni::{parse_with_format, Format};
@@ -11,7 +11,7 @@ use jadvolni_sys as sys;
 /// assert_eq!(parse_with_format::<u8>("0x1F", &HEXADECIMAL), Ok(31));
 /// ```
 ///
-/// Anything may be set: the calls refuse a format that breaks a rule, and `error` tells it beforehand.
+/// Any values may be set: the calls refuse a format that breaks a rule, and `error` checks it in advance.
 #[derive(Debug, Copy, Clone, PartialEq, Eq, Hash)]
 pub struct Format(pub(crate) sys::jadvolni_format);
 
@@ -119,7 +119,7 @@ impl Format {
         literal_octal_zero
     }
 
-    /// The first rule that the format breaks, and `None` where it breaks none.
+    /// The first rule that the format breaks, or `None`.
     ///
     /// ```
     /// use jadvolni::{Error, Format};

@@ -16,33 +16,33 @@ use std::string::String;
 use std::vec;
 use std::vec::Vec;
 
-/// What may stand in front of a text of UTF-8, and is no part of it.
+/// A byte order mark, which may come before a text in UTF-8 and isn't part of it.
 pub(crate) const BYTE_ORDER_MARK: &[u8] = b"\xEF\xBB\xBF";
 
-/// So many names of a header are told, and of each so many characters.
+/// How many names of a header a message lists, and how many characters of each.
 const NAMES_TOLD: usize = 40;
 const NAME_TOLD: usize = 40;
 
-/// Why columns aren't found by their names.
+/// Why columns can't be found by their names.
 #[derive(Debug, Clone, PartialEq, Eq)]
 #[non_exhaustive]
 pub enum HeaderError {
     /// The text has no row.
     NoHeader,
-    /// The first row is none of the table, as where a quote is out of place.
+    /// The first row isn't one of the table: for instance, a quote is misplaced.
     Invalid(TableError),
     /// No column has the name.
     Missing {
         /// The name that was asked for.
         name: String,
-        /// The names that there are.
+        /// The names in the header.
         header: Vec<String>,
     },
     /// More than one column has the name.
     Doubled {
         /// The name that was asked for.
         name: String,
-        /// The names that there are.
+        /// The names in the header.
         header: Vec<String>,
     },
     /// The name was asked for twice.
@@ -50,7 +50,7 @@ pub enum HeaderError {
 }
 
 impl HeaderError {
-    /// This fault of a part of a text as one of the text, in which so many bytes stand before the part.
+    /// This fault of a part of a text, as one of the whole text, which has `bytes` bytes before the part.
     pub(crate) fn behind(self, bytes: usize) -> Self {
         match self {
             HeaderError::Invalid(error) => HeaderError::Invalid(error.behind(0, bytes)),
@@ -59,7 +59,7 @@ impl HeaderError {
     }
 }
 
-/// Names as a message lists them: each in quotes, and long ones or too many cut.
+/// Names as a message lists them: each in quotes, and cut if they are long or too many.
 fn listed(f: &mut fmt::Formatter<'_>, names: &[String]) -> fmt::Result {
     for (index, name) in names.iter().take(NAMES_TOLD).enumerate() {
         f.write_str(if index > 0 { ", " } else { "" })?;
@@ -71,7 +71,7 @@ fn listed(f: &mut fmt::Formatter<'_>, names: &[String]) -> fmt::Result {
     }
 }
 
-/// A name in quotes, cut where it is long.
+/// A name in quotes, cut if it is long.
 pub(crate) fn told(f: &mut fmt::Formatter<'_>, name: &str) -> fmt::Result {
     match name.char_indices().nth(NAME_TOLD) {
         Some((end, _)) => write!(f, "{:?} ..", &name[..end]),
@@ -80,7 +80,7 @@ pub(crate) fn told(f: &mut fmt::Formatter<'_>, name: &str) -> fmt::Result {
 }
 
 impl fmt::Display for HeaderError {
-    /// What is wrong, and where a name is, which names there are: `no column "cent": the header has "id", "cents"`.
+    /// What is wrong, and for a name, which names there are: `no column "cent": the header has "id", "cents"`.
     fn fmt(&self, f: &mut fmt::Formatter<'_>) -> fmt::Result {
         match self {
             HeaderError::NoHeader => f.write_str("the table has no header"),
@@ -108,10 +108,10 @@ impl fmt::Display for HeaderError {
 
 impl core::error::Error for HeaderError {}
 
-/// The names of a table's columns, as its first row has them.
+/// The names of a table's columns, from its first row.
 ///
-/// That row is read by the table's own rules: a name may stand within quotes, with separators, line feeds and doubled
-/// quotes in it, and blanks around it are none of it where the table allows them.
+/// That row follows the rules of the table: a name may be enclosed in quotes, and may then contain separators, line
+/// feeds and doubled quotes; blanks around it are ignored if the table allows them.
 #[derive(Debug, Clone, PartialEq, Eq)]
 pub struct Header {
     names: Vec<Vec<u8>>,
@@ -119,8 +119,8 @@ pub struct Header {
 }
 
 impl Header {
-    /// The header that a text begins with. A byte order mark in front of it is skipped, and so are empty rows where
-    /// the table skips them.
+    /// The header at the beginning of a text. A byte order mark before it is skipped, and so are empty rows if the
+    /// table skips them.
     ///
     /// ```
     /// use jadvolni::{Dialect, Header};
@@ -147,7 +147,7 @@ impl Header {
         }
     }
 
-    /// The header that a row is, with what ends it.
+    /// The header that a row is, with its line end.
     pub(crate) fn of_row(row: &[u8], dialect: &Dialect<'_>) -> Result<Header, HeaderError> {
         if row.is_empty() {
             return Err(HeaderError::NoHeader);
@@ -166,22 +166,22 @@ impl Header {
         Ok(Header { names, stop: row.len() })
     }
 
-    /// The place of the first byte behind the header, at which the first row begins.
+    /// The place after the header, where the first row starts.
     pub fn stop(&self) -> usize {
         self.stop
     }
 
-    /// The names, column by column. What isn't UTF-8 is replaced.
+    /// The names, column by column. Bytes that aren't UTF-8 are replaced.
     pub fn names(&self) -> impl ExactSizeIterator<Item = Cow<'_, str>> {
         self.names.iter().map(|name| String::from_utf8_lossy(name))
     }
 
-    /// The name of a column, counted from 0, as of [`TableError::column`].
+    /// The name of a column, from 0, as in [`TableError::column`].
     pub fn name(&self, column: usize) -> Option<Cow<'_, str>> {
         self.names.get(column).map(|name| String::from_utf8_lossy(name))
     }
 
-    /// The column that alone has a name, counted from 0.
+    /// The only column that has a name, from 0.
     pub fn column(&self, name: &str) -> Result<usize, HeaderError> {
         let mut found = self.names.iter().enumerate().filter(|(_, it)| it[..] == *name.as_bytes());
         let header = || self.names().map(Cow::into_owned).collect();
@@ -192,10 +192,10 @@ impl Header {
         }
     }
 
-    /// What a text tells of a fault in its rows behind this header, as of [`TableError::in_text`], and the column's
-    /// name.
+    /// A fault of the rows after this header, with its line, row and cell, as by [`TableError::in_text`], and the name
+    /// of its column.
     ///
-    /// Rows count from behind the header, and places from the text's start, as of [`Columns::read`].
+    /// Rows count from the end of the header, and places from the start of the text, as for [`Columns::read`].
     pub fn fault(
         &self,
         error: impl Into<TableError>,
@@ -208,7 +208,7 @@ impl Header {
         TableFault::in_text(error, start, text, dialect).named(self.name(error.column))
     }
 
-    /// The columns of the table, of which those are read that have the names.
+    /// The columns of the table, of which those with these names are read.
     ///
     /// ```
     /// use jadvolni::{parse_table, Dialect, Header, TableColumn};
@@ -239,7 +239,7 @@ impl Header {
     }
 }
 
-/// The columns of a table, of which those are read that have names which were asked for. It is a slice of them all.
+/// The columns of a table, of which those are read whose names were asked for. It is a slice of all columns.
 #[derive(Debug)]
 pub struct Columns<'a> {
     header: Header,
@@ -247,7 +247,7 @@ pub struct Columns<'a> {
 }
 
 impl<'a> Columns<'a> {
-    /// The columns of a text that begins with a header, as of [`Header::of`] and [`Header::columns`].
+    /// The columns of a text that begins with a header, as by [`Header::of`] and [`Header::columns`].
     ///
     /// ```
     /// use jadvolni::{Columns, Dialect, Error, Table, TableColumn, TableError};
@@ -278,8 +278,8 @@ impl<'a> Columns<'a> {
         &self.header
     }
 
-    /// Reads the rows behind the header of a text, as [`parse_table`] does. Places count from the text's start, those of
-    /// texts too.
+    /// Reads the rows after the header of a text, as [`parse_table`] does. Places count from the start of the text, and
+    /// so do those of texts.
     pub fn read(
         &mut self,
         text: impl AsRef<[u8]>,
@@ -300,8 +300,8 @@ impl<'a> Columns<'a> {
         }
     }
 
-    /// Reads the rows behind the header of a text, but skips and counts those at fault, as [`parse_table_skipping`]
-    /// does. Places count from the text's start, those of texts too.
+    /// Reads the rows after the header of a text, but skips the bad ones and counts them, as [`parse_table_skipping`]
+    /// does. Places count from the start of the text, and so do those of texts.
     pub fn read_skipping<'b>(
         &mut self,
         text: impl AsRef<[u8]>,
@@ -318,8 +318,8 @@ impl<'a> Columns<'a> {
         Ok(Skipping { rows, bad_rows, bad, stop: start + stop })
     }
 
-    /// Has the places of texts that were read behind the header count from the text's start: those of so many rows, and
-    /// of so many cells behind them.
+    /// Makes the places of the texts that were read count from the start of the text: those of `rows` rows, and of
+    /// `cells` cells after them.
     fn move_texts(&mut self, rows: usize, cells: usize) {
         let start = self.header.stop;
         for (index, column) in self.columns.iter_mut().enumerate() {
@@ -344,7 +344,7 @@ impl<'a> DerefMut for Columns<'a> {
 
 // ---- a row's cells
 
-/// Whether a row, with what ends it, is an empty one that the table skips.
+/// Whether a row, with its line end, is an empty one that the table skips.
 pub(crate) fn is_skipped(row: &[u8], dialect: &Dialect<'_>) -> bool {
     !row.is_empty() && row_place(row, dialect, 0).is_ok_and(|found| found.start == row.len())
 }

@@ -9,12 +9,12 @@
 //! assert_eq!(parse_with_format::<u8>("0x1F", &hexadecimal), Ok(31));
 //! ```
 //!
-//! Fields, rows, columns, lines and places count from 0. What is told to people counts fields, rows, columns and lines
-//! from 1, as an editor does, and bytes from 0.
+//! Fields, rows, columns, lines and places count from 0. Messages count fields, rows, columns and lines from 1, as an
+//! editor does, and bytes from 0.
 //!
-//! No call panics, and none allocates, but what the feature `std` has: `ColumnReader` and `TableReader` hold a block,
-//! `Header` and `Columns` names, and `CellText::folded` makes a text. The proofs are of the library below these calls:
-//! that this crate hands its texts over and its answers back is tested.
+//! No call panics, and none allocates, except with the feature `std`: `ColumnReader` and `TableReader` hold a block,
+//! `Header` and `Columns` names, and `CellText::folded` makes a text. The proofs are about the library below these
+//! calls; that this crate passes its texts and answers correctly is tested.
 #![no_std]
 
 // The example of the README is a test too.
@@ -84,7 +84,7 @@ pub use within::{parse_fixed_within, parse_within, parse_within_with_format, Wit
 
 use jadvolni_sys as sys;
 
-/// The whole text as a `T`: decimal digits after an optional sign.
+/// Reads the whole text as a `T`: decimal digits after an optional sign.
 ///
 /// ```
 /// assert_eq!(jadvolni::parse::<i8>("-128"), Ok(-128));
@@ -95,10 +95,10 @@ pub fn parse<T: Integer>(text: impl AsRef<[u8]>) -> Result<T, Error> {
     integer::complete(text.as_ref())
 }
 
-/// The number in front of the text as a `T`, and where reading stopped. Where no digit was read, that is
-/// `Error::Empty` at the place where reading stopped.
+/// Reads the number at the beginning of the text as a `T`, and returns it with the place where reading stopped. If no
+/// digit was read, that is `Error::Empty` at this place.
 ///
-/// Where more bytes may come, as from a stream, an answer at the text's end isn't final: `12` may go on as `123`.
+/// If more bytes may come, as from a stream, a result at the text's end isn't final: `12` may continue as `123`.
 ///
 /// ```
 /// use jadvolni::{parse_front, Error};
@@ -110,8 +110,8 @@ pub fn parse_front<T: Integer>(text: impl AsRef<[u8]>) -> Result<(T, usize), Err
     integer::front(text.as_ref())
 }
 
-/// The front of the text as a `T`, and where reading stopped. A front of no digits, before other bytes, is 0 and no
-/// fault: `x` at place 0, and `+a` at place 1. Where a number has to be there, take [`parse_front`].
+/// As [`parse_front`], but digits may be missing: if other bytes stand where digits should, the result is 0, and no
+/// fault: `x` is 0 at place 0, and `+a` at place 1. If you need a number, use [`parse_front`].
 ///
 /// ```
 /// assert_eq!(jadvolni::parse_partial::<u64>("1234 }"), Ok((1234, 4)));
@@ -122,7 +122,7 @@ pub fn parse_partial<T: Integer>(text: impl AsRef<[u8]>) -> Result<(T, usize), E
     integer::partial(text.as_ref())
 }
 
-/// The whole text as a `T`, under a format.
+/// Reads the whole text as a `T`, under a format.
 ///
 /// ```
 /// use jadvolni::{Error, Format};
@@ -134,7 +134,7 @@ pub fn parse_with_format<T: Integer>(text: impl AsRef<[u8]>, format: &Format) ->
     integer::complete_with(text.as_ref(), format)
 }
 
-/// The number in front of the text as a `T`, under a format, and where reading stopped.
+/// Reads the number at the beginning of the text as a `T`, under a format, and returns where reading stopped too.
 ///
 /// ```
 /// use jadvolni::{parse_front_with_format, Error, Format};
@@ -149,7 +149,7 @@ pub fn parse_front_with_format<T: Integer>(
     integer::front_with(text.as_ref(), format)
 }
 
-/// The front of the text as a `T`, under a format, where no digit has to be there.
+/// As [`parse_front_with_format`], but digits may be missing.
 ///
 /// ```
 /// assert_eq!(jadvolni::parse_partial_with_format::<u64>("0b102", &jadvolni::Format::LITERAL), Ok((2, 4)));
@@ -162,7 +162,7 @@ pub fn parse_partial_with_format<T: Integer>(
     integer::partial_with(text.as_ref(), format)
 }
 
-/// The version of the library that was linked: 100 for 0.1.0.
+/// The version of the linked library: 100 for 0.1.0.
 pub fn library_version() -> u32 {
     // SAFETY: the call has no argument and reads nothing.
     unsafe { sys::jadvolni_version() }

@@ -1,11 +1,11 @@
-//! Columns whose lines have returns, blanks, missing numbers or amounts: tables of one column.
+//! Columns whose lines have carriage returns, blanks, missing numbers or amounts: tables of one column.
 
 use crate::{parse_table, row_place, Column, ColumnError, Dialect, Table, TableColumn, TableError};
 
-/// Reads the numbers of a text's lines as the one column of a table, as far as its slice and its bits have room: with
-/// the returns, the blanks and the missing numbers of a dialect, and the format or the amounts of the column.
+/// Reads the numbers of a text's lines, as the only column of a table, as long as its slice and its bits have room. The
+/// dialect says whether there are carriage returns, blanks and missing numbers; the column has the format, or amounts.
 ///
-/// By [`Dialect::LINES`] a line is one cell. What was read before a fault stays, and the fault is told as of
+/// With [`Dialect::LINES`] each line is one cell. The numbers before a fault are there, and the fault is that of
 /// [`parse_column`](crate::parse_column), where a field is a line.
 ///
 /// ```

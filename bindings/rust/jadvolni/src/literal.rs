@@ -3,19 +3,19 @@
 use crate::{integer, Error, Format};
 use jadvolni_sys as sys;
 
-/// A literal that a text begins with. Its suffix is the text from `number_stop` to before `stop`.
+/// A literal at the beginning of a text. Its suffix is the text from `number_stop` up to `stop`.
 #[derive(Debug, Copy, Clone, PartialEq, Eq)]
 pub struct Literal {
     /// The value of its number.
     pub value: u128,
-    /// The place behind its number, at which its suffix begins.
+    /// The place after its number, where its suffix begins.
     pub number_stop: usize,
-    /// The place behind its suffix.
+    /// The place after its suffix.
     pub stop: usize,
 }
 
-/// The literal that the text begins with, under the format of its language: the number in front of it, and the
-/// suffix, which is all ASCII letters, `0` to `9` and `_` behind that.
+/// Reads the literal at the beginning of the text, under the format of its language: its number, and its suffix, which
+/// is all ASCII letters, `0` to `9` and `_` that follow.
 ///
 /// ```
 /// use jadvolni::{parse_literal, Error, Format};
@@ -26,7 +26,7 @@ pub struct Literal {
 /// # Ok::<(), Error>(())
 /// ```
 ///
-/// Which suffixes a language has is for the caller to ask: `1e5` is 1 with the suffix `e5`.
+/// The caller decides which suffixes are valid: `1e5` is 1 with the suffix `e5`.
 pub fn parse_literal(text: impl AsRef<[u8]>, format: &Format) -> Result<Literal, Error> {
     let (text, mut value, mut number_stop) = (text.as_ref(), sys::jadvolni_uint128::default(), 0);
     // SAFETY: the pointers are those of a slice with its length, of a borrowed format, and of two values

@@ -12,9 +12,9 @@ use std::vec::Vec;
 #[derive(Debug)]
 #[non_exhaustive]
 pub enum ReadError {
-    /// A read failed. All numbers of the bytes before it were given, and the next call reads on there.
+    /// A read failed. All numbers before it were given, and the next call continues there.
     Io(io::Error),
-    /// A field is no number of the type, or the format is invalid. No number follows.
+    /// A field isn't a number of the type, or the format is invalid. No number follows.
     Column(ColumnError),
     /// The field that starts at this place has more bytes than a block. No number follows.
     LongField(usize),
@@ -33,7 +33,7 @@ impl fmt::Display for ReadError {
 }
 
 impl core::error::Error for ReadError {
-    /// Why a read failed. What has a text of its own isn't a source too: it would be told twice.
+    /// Why a read failed. An error that is shown in the message isn't a source too: it would be shown twice.
     fn source(&self) -> Option<&(dyn core::error::Error + 'static)> {
         match self {
             ReadError::Io(error) => error.source(),
@@ -42,11 +42,11 @@ impl core::error::Error for ReadError {
     }
 }
 
-/// The numbers of a reader's fields between a separator, in turn. It holds one block of the text and
-/// the numbers of that, however long the text is. A last separator ends no further field.
+/// The numbers of a reader's fields, in turn, with a separator between two fields; one at the end starts no further
+/// field. It holds one block of the text and its numbers, however long the text is.
 ///
-/// An interrupted read is tried again. Behind a fault of a field there is no number more. A reader that gives single
-/// bytes costs no more than one that gives blocks, but for its calls.
+/// An interrupted read is tried again. After a fault of a field no number follows. A reader that gives single bytes
+/// costs no more than one that gives blocks, except for its calls.
 ///
 /// ```
 /// use jadvolni::{ColumnError, ColumnReader, Error, Format, ReadError};
@@ -77,14 +77,14 @@ pub struct ColumnReader<R, T> {
 }
 
 impl<R: Read, T: ColumnInteger> ColumnReader<R, T> {
-    /// A reader of fields, by blocks of 64 KiB.
+    /// A reader of fields, in blocks of 64 KiB.
     pub fn new(reader: R, separator: u8, format: Format) -> Self {
         Self::with_capacity(1 << 16, reader, separator, format)
     }
 
-    /// A reader of fields of so many bytes at most, and of one at least, by blocks of as many.
+    /// A reader of fields of at most `size` bytes, and at least one, in blocks of that size.
     ///
-    /// A block of more than 1 MiB is taken where a field needs it. Where there is no memory for it, that is
+    /// A block of more than 1 MiB is only allocated if a field needs it. If there is no memory for it, that is
     /// [`ReadError::Io`].
     pub fn with_capacity(size: usize, reader: R, separator: u8, format: Format) -> Self {
         ColumnReader {

@@ -1,14 +1,14 @@
 //! Integers in what serde reads and writes, with the feature `serde`.
 
-/// Makes a module for `#[serde(with = "..")]`, by which a field is read from a string, or also from a number.
+/// Makes a module for `#[serde(with = "..")]`, which reads a field from a string, or also from a number.
 ///
 /// It has no dependency: the module names the `serde` of the crate that calls it.
 ///
 /// - `as string` reads and writes a string.
 /// - `as number` reads a number or a string, and writes a number.
 ///
-/// A string is read under a format, [`Format::STANDARD`](crate::Format::STANDARD) where none is given; the number of
-/// either has to be within bounds, where such are given.
+/// A string is read under a format, by default [`Format::STANDARD`](crate::Format::STANDARD). If bounds are given, a
+/// number from either must be within them.
 ///
 /// ```ignore
 /// use jadvolni::Format;

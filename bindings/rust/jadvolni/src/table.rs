@@ -7,7 +7,7 @@ use core::marker::PhantomData;
 use core::ptr::null;
 use jadvolni_sys as sys;
 
-/// How a table is written: what parts two cells, and what else isn't as in plain lines.
+/// How a table is written: what separates two cells, and how it differs from plain lines.
 #[derive(Debug, Copy, Clone)]
 pub struct Dialect<'a>(pub(crate) sys::jadvolni_table, PhantomData<&'a [u8]>);
 
@@ -16,10 +16,10 @@ unsafe impl Send for Dialect<'_> {}
 unsafe impl Sync for Dialect<'_> {}
 
 impl<'a> Dialect<'a> {
-    /// Lines of one cell each, which no byte parts: a column of numbers.
+    /// Lines of one cell each, without separators: a column of numbers.
     pub const LINES: Self = Self::separated_by(b'\n');
 
-    /// Cells between a byte, in lines that end in a line feed.
+    /// Cells with a separator between them, in lines that end with a line feed.
     pub const fn separated_by(separator: u8) -> Self {
         let table = sys::jadvolni_table {
             separator,
@@ -38,7 +38,7 @@ impl<'a> Dialect<'a> {
         Dialect(table, PhantomData)
     }
 
-    /// Cells of so many bytes each, with nothing between them. There is one width at least, as many as columns.
+    /// Cells of fixed widths in bytes, with nothing between them. There is at least one width, and one for each column.
     ///
     /// ```
     /// use jadvolni::{parse_table, Dialect, Table, TableColumn};
@@ -58,45 +58,44 @@ impl<'a> Dialect<'a> {
         dialect
     }
 
-    /// Whether a row is a record, of as many bytes as the widths say together, with nothing between two rows.
+    /// Whether a row is a record: as many bytes as the sum of the widths, with nothing between two rows.
     pub const fn is_records(mut self, flag: bool) -> Self {
         self.0.is_records = flag as u8;
         self
     }
 
-    /// Whether a carriage return stands before each line feed. Without it a return is a byte of its cell.
+    /// Whether each line feed has a carriage return before it. Otherwise a carriage return is a byte of its cell.
     pub const fn has_returns(mut self, flag: bool) -> Self {
         self.0.has_returns = flag as u8;
         self
     }
 
-    /// Whether a carriage return may stand before each line feed: then it is no byte of its row. Where
-    /// [`Dialect::has_returns`] asks for one, this changes nothing.
+    /// Whether each line feed may have a carriage return before it, which then isn't a byte of its row. No effect if
+    /// [`Dialect::has_returns`] is set.
     pub const fn allows_returns(mut self, flag: bool) -> Self {
         self.0.allows_returns = flag as u8;
         self
     }
 
-    /// Whether a cell may stand within quotes, `"`, and then hold separators and line feeds.
+    /// Whether a cell may be enclosed in quotes, `"`, and may then contain separators and line feeds.
     pub const fn has_quotes(mut self, flag: bool) -> Self {
         self.0.has_quotes = flag as u8;
         self
     }
 
-    /// Whether spaces and tabs may stand around a number, or around what stands for a missing one.
+    /// Whether spaces and tabs may surround a number, or what stands for a missing one.
     pub const fn allows_blanks(mut self, flag: bool) -> Self {
         self.0.allows_blanks = flag as u8;
         self
     }
 
-    /// Whether a row without a byte is none.
+    /// Whether empty rows are skipped.
     pub const fn skips_empty_rows(mut self, flag: bool) -> Self {
         self.0.skips_empty_rows = flag as u8;
         self
     }
 
-    /// What stands for a missing number or text, byte for byte, in columns that have bits for it: at first an empty
-    /// cell.
+    /// What stands for a missing number or text, byte for byte, in columns that have bits: by default an empty cell.
     pub const fn missing(mut self, mark: &'a [u8]) -> Self {
         self.0.missing = mark.as_ptr().cast();
         self.0.missing_len = mark.len();
@@ -105,7 +104,7 @@ impl<'a> Dialect<'a> {
 }
 
 impl<'a> Dialect<'a> {
-    /// The widths of cells; none where these stand between separators.
+    /// The widths of cells; none if there are separators between them.
     pub(crate) fn widths(&self) -> &'a [usize] {
         if self.0.width_count == 0 {
             return &[];
@@ -120,18 +119,18 @@ impl<'a> Dialect<'a> {
 pub struct Table {
     /// How many rows were read.
     pub rows: usize,
-    /// Where reading stopped: the text's end, or the start of the first row for which a slice had no room.
+    /// Where reading stopped: the text's end, or the start of the first row that had no room in a slice.
     pub stop: usize,
 }
 
 /// Why a table isn't read to its end: the first wrong cell in reading order, or a column that can't be read.
 #[derive(Debug, Copy, Clone, PartialEq, Eq)]
 pub struct TableError {
-    /// The row, counted from 0: so many rows were read.
+    /// The row, from 0: as many rows were read.
     pub row: usize,
-    /// The column, counted from 0: so many cells of the row were read.
+    /// The column, from 0: as many cells of the row were read.
     pub column: usize,
-    /// What is wrong. A fault of a format has no place, and stands before all rows.
+    /// What is wrong. A fault of a format has no place, and comes before all rows.
     pub error: Error,
 }
 
@@ -148,7 +147,8 @@ impl fmt::Display for TableError {
 }
 
 impl TableError {
-    /// This wrong cell of a part of a text as one of the text, in which so many rows and bytes stand before the part.
+    /// This fault of a part of a text, as one of the whole text, which has `rows` rows and `bytes` bytes before the
+    /// part.
     ///
     /// ```
     /// use jadvolni::{Error, TableError};
@@ -160,16 +160,16 @@ impl TableError {
         TableError { row: self.row.saturating_add(rows), error: self.error.moved(bytes), ..self }
     }
 
-    /// What the text tells of the fault, in which its rows and places count: its line, its row, and its cell.
+    /// The fault with its line, its row, and its cell. `text` is the one in which its rows and places count.
     ///
-    /// The time is that of a walk over the text up to the row.
+    /// It takes the time to scan the text up to the row.
     pub fn in_text(&self, text: impl AsRef<[u8]>, dialect: &Dialect<'_>) -> TableFault {
         let text = text.as_ref();
         let start = row_place(text, dialect, self.row).unwrap_or_default().start;
         TableFault::in_text(*self, start, text, dialect)
     }
 
-    /// The line and the column of the fault's byte in its text, as of [`Error::position`].
+    /// The line and the column of the fault's byte in the text, as by [`Error::position`].
     pub fn position(&self, text: impl AsRef<[u8]>) -> Option<Position> {
         self.error.position(text)
     }
@@ -177,10 +177,10 @@ impl TableError {
 
 impl core::error::Error for TableError {}
 
-/// Reads the rows of a text, each column into a slice of its own, as far as each of these has room.
+/// Reads the rows of a text, each column into a slice of its own, as long as all of these have room.
 ///
-/// A row has one cell more than separators, and as many as there are columns. Behind a fault the numbers of all
-/// cells before the wrong one are in the slices, and all else in these is as it was.
+/// A row has one cell more than separators, and needs one for each column. After a fault the numbers of all cells
+/// before the wrong one are in the slices, and the rest of these is unchanged.
 ///
 /// ```
 /// use jadvolni::{parse_table, Dialect, Error, Table, TableColumn, TableError};
@@ -202,10 +202,10 @@ pub fn parse_table(
     parse_table_part(text, true, dialect, columns)
 }
 
-/// Reads the whole rows of a part of a text, as a block of a file, and all of it where it is the last part.
+/// Reads the rows of a part of a text, such as a block of a file: the whole rows, or all if it is the last part.
 ///
-/// Put the bytes from `stop` on in front of the next part: read so, all parts give the rows of the whole text. Rows
-/// and places count from the part's start.
+/// Put the bytes from `stop` on in front of the next part: then all parts give the rows of the whole text. Rows and
+/// places count from the start of the part.
 ///
 /// ```
 /// use jadvolni::{parse_table_part, Dialect, Table, TableColumn};

@@ -1,10 +1,10 @@
-//! The columns of a table: what their cells look like, and the slices that these go to.
+//! The columns of a table: what their cells look like, and the slices that they are stored in.
 
 use crate::{CellText, ColumnInteger, Fixed, Format};
 use core::marker::PhantomData;
 use jadvolni_sys as sys;
 
-/// A column of a table: it is read into a slice, or its cells aren't looked at.
+/// A column of a table, which is read into a slice, or isn't read.
 #[derive(Debug)]
 #[repr(transparent)]
 pub struct TableColumn<'a>(sys::jadvolni_table_column, PhantomData<&'a mut ()>);
@@ -13,17 +13,17 @@ impl<'a> TableColumn<'a> {
     /// A column that isn't read: its cells may hold any bytes but the separator and a line feed.
     pub const UNREAD: Self = TableColumn(UNREAD, PhantomData);
 
-    /// A column whose numbers go to a slice, under the standard format.
+    /// A column that stores its numbers in a slice, under the standard format.
     pub fn of<T: TableInteger>(numbers: &'a mut [T]) -> Self {
         Self::with_format(numbers, &Format::STANDARD)
     }
 
-    /// A column whose numbers go to a slice, under a format.
+    /// A column that stores its numbers in a slice, under a format.
     pub fn with_format<T: TableInteger>(numbers: &'a mut [T], format: &Format) -> Self {
         Self::into_slice(numbers, sys::jadvolni_table_column { format: format.0, ..UNREAD })
     }
 
-    /// A column whose fixed-point numbers go to a slice, in units of the last place. Where the description has no
+    /// A column that stores its fixed-point numbers in a slice, in units of the last place. If the description has 0
     /// places, they are integers in the format of its integer part.
     ///
     /// ```
@@ -42,13 +42,13 @@ impl<'a> TableColumn<'a> {
         Self::into_slice(numbers, fixed)
     }
 
-    /// A column of texts, of which it goes to a slice where each stands. A cell may hold any bytes, and doubled quotes
-    /// within its own.
+    /// A column of texts, which stores in a slice where each is. A cell may hold any bytes, and doubled quotes within
+    /// its own.
     pub fn of_texts(texts: &'a mut [CellText]) -> Self {
         Self::into_slice(CellText::as_kept(texts), UNREAD)
     }
 
-    /// A column that goes to a slice.
+    /// A column that is stored in a slice.
     fn into_slice<T: TableArray>(
         items: &'a mut [T],
         mut column: sys::jadvolni_table_column,
@@ -57,9 +57,9 @@ impl<'a> TableColumn<'a> {
         TableColumn(column, PhantomData)
     }
 
-    /// The same column, where numbers or texts may be missing: the bit `k & 7` of byte `k >> 3` is then 1 if row `k` has
-    /// one, and 0 if it is missing, and then 0 or [`CellText::NONE`] is in the slice. The lowest bit comes first, and
-    /// [`is_present`] asks for one.
+    /// The same column, if numbers or texts may be missing: bit `k & 7` of byte `k >> 3` is then 1 if row `k` has one,
+    /// and 0 if it is missing; then the slice has 0 or [`CellText::NONE`] there. The lowest bit comes first.
+    /// [`is_present`] tests one.
     pub fn with_bits(mut self, present: &'a mut [u8]) -> Self {
         self.0.present = array_of(present);
         self
@@ -74,7 +74,8 @@ impl<'a> TableColumn<'a> {
 
 #[cfg(feature = "std")]
 impl TableColumn<'_> {
-    /// Has the places of the texts in the first rows count from so many bytes before what was read. Missing ones stay.
+    /// Makes the places of the texts in the first rows count from `bytes` bytes before what was read. Missing ones are
+    /// unchanged.
     pub(crate) fn move_texts(&mut self, rows: usize, bytes: usize) {
         let (text, present) = (self.0.text, self.0.present);
         if text.numbers.is_null() {
@@ -95,7 +96,7 @@ impl TableColumn<'_> {
     }
 }
 
-/// Whether a row has a number or a text, by the bits of its column. A row that they have no bit for has none.
+/// Whether a row has a number or a text, by the bits of its column. A row past the last bit has none.
 ///
 /// ```
 /// use jadvolni::{is_present, parse_table, Dialect, TableColumn};
@@ -108,12 +109,12 @@ pub fn is_present(bits: &[u8], row: usize) -> bool {
     bits.get(row >> 3).is_some_and(|byte| byte >> (row & 7) & 1 == 1)
 }
 
-/// How many rows there is room for: there is no bound where no column is read.
+/// How many rows there is room for; there is no bound if no column is read.
 pub(crate) fn capacity(columns: &[TableColumn<'_>]) -> usize {
     columns.iter().filter_map(TableColumn::room).min().unwrap_or(usize::MAX)
 }
 
-/// A call of the library on the rows of a part of a text, and what it takes behind the columns.
+/// A call of the library on the rows of a part of a text, and its arguments after the columns.
 macro_rules! call_on_rows {
     ($call:ident($text:ident, $is_last:ident, $dialect:ident, $columns:ident $(, $more:expr)*)) => {
         jadvolni_sys::$call(
@@ -139,11 +140,11 @@ pub trait TableInteger: ColumnInteger + TableArray {}
 
 /// The array of the library's column that has items of a type.
 pub trait TableArray: Sized {
-    /// Makes a slice that array.
+    /// Sets that array to a slice.
     fn put_into(column: &mut sys::jadvolni_table_column, items: &mut [Self]);
 }
 
-/// A slice as the library has it.
+/// A slice as a struct of the library.
 fn array_of<T>(items: &mut [T]) -> sys::jadvolni_array<T> {
     sys::jadvolni_array { numbers: items.as_mut_ptr(), capacity: items.len() }
 }
@@ -153,7 +154,7 @@ fn room_of<T>(array: sys::jadvolni_array<T>) -> Option<usize> {
     (!array.numbers.is_null()).then_some(array.capacity)
 }
 
-/// The arrays of a column, each by its name and the type of its items. One of them is set where the column is read.
+/// The arrays of a column, each by its name and the type of its items. One of them is set if the column is read.
 macro_rules! arrays {
     ($($name:ident: $type:ty)*) => {
         $(impl TableArray for $type {

@@ -1,4 +1,4 @@
-//! A fault of a table with what its text tells: its line, its row, and its cell.
+//! A fault of a table, and where it is in the text: its line, its row, and its cell.
 
 #[cfg(feature = "std")]
 extern crate std;
@@ -10,11 +10,10 @@ use core::fmt;
 #[cfg(feature = "std")]
 use std::{boxed::Box, string::String};
 
-/// Why a table isn't read to its end, or why a row was skipped, with what the text tells of it. It may outlive the
-/// text.
+/// Why a table isn't read to its end, or why a row was skipped, and where that is in the text. It may outlive the text.
 ///
 /// [`TableError::in_text`] and [`crate::BadRow::in_text`] make one. With the feature `std`, `Header::fault` and
-/// `TableReader` do, and these know the column's name.
+/// `TableReader` do, and add the column's name.
 ///
 /// ```
 /// use jadvolni::{parse_table, Dialect, Error, TableColumn};
@@ -30,18 +29,18 @@ use std::{boxed::Box, string::String};
 #[derive(Debug, Clone, PartialEq, Eq)]
 #[non_exhaustive]
 pub struct TableFault {
-    /// The row, counted from 0. A header is none.
+    /// The row, from 0. A header isn't a row.
     pub row: usize,
-    /// The column, counted from 0: so many cells of the row are right.
+    /// The column, from 0: as many cells of the row are good.
     pub column: usize,
     /// What is wrong. A fault of the table or of a format has no place: then the line and both places of the row are 0,
     /// and there is no cell.
     pub error: Error,
-    /// The line of the place, counted from 0: so many line feeds stand before it.
+    /// The line of the place, from 0: the number of line feeds before it.
     pub line: usize,
-    /// The place at which the row starts.
+    /// The place where the row starts.
     pub row_start: usize,
-    /// The place behind the row and what ends it.
+    /// The place after the row and its line end.
     pub row_stop: usize,
     is_record: bool,
     cell: Option<Cell>,
@@ -57,7 +56,7 @@ struct Cell {
 }
 
 impl Cell {
-    /// The cell of a column in a row that an error is about, if the place in the row is one of it.
+    /// The cell of the column in a row that has the error, if the place in the row is in it.
     fn of(error: &TableError, row: &[u8], place: usize, dialect: &Dialect<'_>) -> Option<Cell> {
         if matches!(error.error, Error::TooFewCells(_) | Error::MissingReturn(_)) {
             return None;
@@ -126,13 +125,13 @@ impl TableFault {
         self.error.place()
     }
 
-    /// The cell as it stands in the text, quotes and blanks included, cut at 40 bytes. There is none where a row has
-    /// too few cells or lacks its return.
+    /// The cell as it is in the text, with quotes and blanks, cut at 40 bytes. There is none if a row has too few cells
+    /// or lacks its carriage return.
     pub fn text(&self) -> Option<&[u8]> {
         self.cell.as_ref().map(|cell| cell.text.as_bytes())
     }
 
-    /// The row as an editor shows it, or its number where rows are no lines.
+    /// The line of the row as an editor shows it, or its number if rows aren't lines.
     fn put_row(&self, f: &mut fmt::Formatter<'_>) -> fmt::Result {
         match self.is_record {
             true => write!(f, "row {}", self.row.saturating_add(1)),
@@ -161,13 +160,13 @@ impl TableFault {
 
 #[cfg(feature = "std")]
 impl TableFault {
-    /// This fault, in a column of a name.
+    /// This fault with the name of its column.
     pub(crate) fn named(self, name: Option<impl Into<String>>) -> TableFault {
         TableFault { name: name.map(|name| name.into().into_boxed_str()), ..self }
     }
 
-    /// This fault of a part of a text as one of the text, in which so many rows, line feeds and bytes stand before the
-    /// part.
+    /// This fault of a part of a text, as one of the whole text, which has `rows` rows, `lines` line feeds and `bytes`
+    /// bytes before the part.
     pub(crate) fn behind(self, rows: usize, lines: usize, bytes: usize) -> TableFault {
         if self.place().is_none() {
             return self;
@@ -182,15 +181,15 @@ impl TableFault {
         }
     }
 
-    /// The name of the column, if a header was read that has it.
+    /// The name of the column, if a header with it was read.
     pub fn name(&self) -> Option<&str> {
         self.name.as_deref()
     }
 }
 
 impl fmt::Display for TableFault {
-    /// The fault as it is told to people, with lines and columns from 1:
-    /// `line 5, "amount": "12,5x": invalid digit at byte 4 of the cell`. Of records it tells the number of the row.
+    /// The fault as a message, with lines and columns from 1:
+    /// `line 5, "amount": "12,5x": invalid digit at byte 4 of the cell`. For records it has the number of the row.
     fn fmt(&self, f: &mut fmt::Formatter<'_>) -> fmt::Result {
         if self.place().is_none() {
             return self.put_without_place(f);

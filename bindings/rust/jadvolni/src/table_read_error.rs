@@ -11,29 +11,29 @@ use std::io;
 #[derive(Debug)]
 #[non_exhaustive]
 pub enum TableReadError {
-    /// A read failed. The rows before it were given, and the next call reads on there.
+    /// A read failed. The rows before it were given, and the next call continues there.
     Io(io::Error),
-    /// A cell is wrong, or a column can't be read. No row follows. The numbers before the wrong cell that weren't
-    /// given yet are in the slices, those of `rows` rows and of a part of one.
+    /// A cell is wrong, or a column can't be read. No row follows. Numbers before the wrong cell that weren't given yet
+    /// are in the slices: those of `rows` rows and of a part of one.
     #[non_exhaustive]
     Table {
         /// How many rows of the slices were filled by the call.
         rows: usize,
         /// What is wrong, and where.
         error: TableError,
-        /// The same with what the text tells of it, and with the column's name, where the header was read.
+        /// The same with its line, row and cell in the text, and with the column's name, if the header was read.
         fault: Box<TableFault>,
     },
     /// The row that starts at this place has more bytes than a block. No row follows.
     LongRow(usize),
-    /// Such a row, where a quote isn't closed in a block. No row follows.
+    /// The same, if a quote isn't closed in the block. No row follows.
     OpenQuote {
-        /// The place at which the row starts.
+        /// The place where the row starts.
         row_start: usize,
         /// The place of the quote.
         quote: usize,
     },
-    /// The first row is no header of the columns that were asked for.
+    /// The first row isn't a header with the columns that were asked for.
     Header(HeaderError),
 }
 
@@ -56,7 +56,7 @@ impl fmt::Display for TableReadError {
 }
 
 impl core::error::Error for TableReadError {
-    /// Why a read failed, as of [`crate::ReadError`].
+    /// Why a read failed, as for [`crate::ReadError`].
     fn source(&self) -> Option<&(dyn core::error::Error + 'static)> {
         match self {
             TableReadError::Io(error) => error.source(),

@@ -16,8 +16,8 @@ use std::vec::Vec;
 
 /// The rows of a reader's table. It holds one block of the text, however long that is.
 ///
-/// An interrupted read is tried again. Behind a wrong cell there is no row more. A reader that gives single bytes costs
-/// no more than one that gives blocks, but for its calls.
+/// An interrupted read is tried again. After a wrong cell no row follows. A reader that gives single bytes costs no
+/// more than one that gives blocks, except for its calls.
 ///
 /// ```
 /// use jadvolni::{Dialect, TableColumn, TableReader};
@@ -61,14 +61,14 @@ pub struct TableReader<'a, R> {
 }
 
 impl<'a, R: Read> TableReader<'a, R> {
-    /// A reader of rows, by blocks of 64 KiB.
+    /// A reader of rows, in blocks of 64 KiB.
     pub fn new(reader: R, dialect: Dialect<'a>) -> Self {
         Self::with_capacity(1 << 16, reader, dialect)
     }
 
-    /// A reader of rows of so many bytes at most, and of one at least, by blocks of as many.
+    /// A reader of rows of at most `size` bytes, and at least one, in blocks of that size.
     ///
-    /// A block of more than 1 MiB is taken where a row needs it. Where there is no memory for it, that is
+    /// A block of more than 1 MiB is only allocated if a row needs it. If there is no memory for it, that is
     /// [`TableReadError::Io`].
     pub fn with_capacity(size: usize, reader: R, dialect: Dialect<'a>) -> Self {
         TableReader {
@@ -91,7 +91,7 @@ impl<'a, R: Read> TableReader<'a, R> {
         }
     }
 
-    /// Reads the first row as the names of the columns. It is no row of the table: ask for it before the others.
+    /// Reads the first row as the names of the columns. It isn't a row of the table; call this before the other calls.
     ///
     /// ```
     /// use jadvolni::{Dialect, TableColumn, TableReader};
@@ -133,10 +133,10 @@ impl<'a, R: Read> TableReader<'a, R> {
         }
     }
 
-    /// Reads rows into the columns' slices, from their front, and answers how many: 0 at the table's end.
+    /// Reads rows into the columns' slices, from their beginning, and returns how many: 0 at the table's end.
     ///
-    /// They are as many as the slices have room for or a block holds, and one at least where there is room. The places
-    /// of texts count within [`TableReader::block`].
+    /// These are as many as the slices have room for or a block holds, and at least one if there is room. The places of
+    /// texts count within [`TableReader::block`].
     pub fn read(&mut self, columns: &mut [TableColumn<'_>]) -> Result<usize, TableReadError> {
         while !self.has_ended && capacity(columns) > 0 {
             if !self.may_have_row() {
@@ -161,9 +161,9 @@ impl<'a, R: Read> TableReader<'a, R> {
         Ok(0)
     }
 
-    /// Reads rows as [`TableReader::read`] does, but skips those at fault, and tells each of them.
+    /// Reads rows as [`TableReader::read`] does, but skips the bad ones, and reports each of them.
     ///
-    /// The right rows are stored one behind another. [`TableReader::bad_rows`] counts the others.
+    /// The good rows are stored without gaps. [`TableReader::bad_rows`] counts the others.
     ///
     /// ```
     /// use jadvolni::{Dialect, TableColumn, TableReader};
@@ -206,7 +206,7 @@ impl<'a, R: Read> TableReader<'a, R> {
         Ok(0)
     }
 
-    /// The bytes from which the last call has read its rows. The places of their texts count from its start: take these
+    /// The bytes from which the last call has read its rows. The places of their texts count from its start: use them
     /// before the next call.
     ///
     /// ```
@@ -228,7 +228,7 @@ impl<'a, R: Read> TableReader<'a, R> {
         &self.block[self.first..self.filled]
     }
 
-    /// How many rows were skipped since they were at fault.
+    /// How many bad rows were skipped.
     pub fn bad_rows(&self) -> usize {
         self.bad_rows
     }

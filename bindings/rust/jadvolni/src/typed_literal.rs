@@ -38,8 +38,8 @@ kinds! {
 
 /// A suffix, and the type that it names: an entry of a table, which may be a constant.
 ///
-/// It is matched byte for byte: a language that takes `u` and `U` has an entry for each. The empty suffix names the type
-/// of a literal without one.
+/// It is matched byte for byte: a language that accepts `u` and `U` has an entry for each. The empty suffix is for
+/// literals without one.
 // Its fields are those of `jadvolni_suffix`, in their order.
 #[derive(Copy, Clone)]
 #[repr(C)]
@@ -62,7 +62,7 @@ unsafe impl Send for Suffix<'_> {}
 unsafe impl Sync for Suffix<'_> {}
 
 impl<'a> Suffix<'a> {
-    /// The entry of a suffix and of the type that it names.
+    /// The entry of a suffix and the type that it names.
     pub const fn new(text: &'a str, kind: IntegerKind) -> Suffix<'a> {
         let (len, text) = (text.len(), text.as_ptr());
         Suffix { text, len, kind, reserved: 0, borrowed: PhantomData }
@@ -87,24 +87,24 @@ impl fmt::Debug for Suffix<'_> {
     }
 }
 
-/// A literal that a text begins with, and the type that its suffix names. Its suffix is the text from `number_stop` to
-/// before `stop`.
+/// A literal at the beginning of a text, and the type that its suffix names. Its suffix is the text from `number_stop`
+/// up to `stop`.
 #[derive(Debug, Copy, Clone, PartialEq, Eq)]
 pub struct TypedLiteral {
-    /// The value of its number, which is one of the type.
+    /// The value of its number, which fits in the type.
     pub value: u128,
     /// The type that its suffix names.
     pub kind: IntegerKind,
-    /// The index of the table's first entry that has its suffix.
+    /// The index of the first entry in the table that has its suffix.
     pub entry: usize,
-    /// The place behind its number, at which its suffix begins.
+    /// The place after its number, where its suffix begins.
     pub number_stop: usize,
-    /// The place behind its suffix.
+    /// The place after its suffix.
     pub stop: usize,
 }
 
-/// The literal that the text begins with, as [`parse_literal`](crate::parse_literal) reads it, judged as the type that its
-/// suffix names in a table.
+/// Reads the literal at the beginning of the text, as [`parse_literal`](crate::parse_literal) does, and checks it
+/// against the type that its suffix names in a table.
 ///
 /// ```
 /// use jadvolni::{parse_typed_literal, Error, Format, IntegerKind, Suffix};
@@ -122,12 +122,12 @@ pub struct TypedLiteral {
 /// # Ok::<(), Error>(())
 /// ```
 ///
-/// `Error::InvalidDigit` is a digit `0` to `9` directly behind the number, `Error::UnknownSuffix` where a suffix begins
-/// that is in no entry, and `Error::Overflow` the digit with which the number leaves its type. Of two entries with one
-/// suffix the first is taken.
+/// `Error::InvalidDigit` is at a digit `0` to `9` directly after the number, `Error::UnknownSuffix` where a suffix
+/// begins that is in no entry, and `Error::Overflow` at the digit at which the number leaves its type. Of two entries
+/// with the same suffix the first is used.
 ///
-/// A literal has no minus: `-128i8` is `Error::Empty(0)`, and `128i8` `Error::Overflow(2)`. Where a minus before a literal
-/// widens its range, let the entry name the unsigned type, and judge the range where the sign is known.
+/// A literal has no minus: `-128i8` is `Error::Empty(0)`, and `128i8` is `Error::Overflow(2)`. If a minus before a
+/// literal widens its range, let the entry name the unsigned type, and check the range where the sign is known.
 pub fn parse_typed_literal(
     text: impl AsRef<[u8]>,
     format: &Format,
