@@ -1,7 +1,7 @@
 -- Digits around a point that has all places behind it are the number in units: for the shortest way.
 use Rattle.std.proofs.Common.{◌≡◌, ℕ, zero, suc, ◌+◌, ◌-◌, ◌*◌, ◌^◌, ◌≤◌, ◌<◌, Bool, true, false, cond, not, ◌&&◌, List, [], ◌∷◌, ◌++◌, length, get_or, take, drop, Option, Some, None, IsNone, is_some, option_and_then, Ok, refl, sym, ap, subst, ◌∙◌, arith, inl}
 use Rattle.std.proofs.Math.IntN.{ℤ, pos}
-use Rattle.std.proofs.Math.Nat.{one-le-pow, mul-le-mul_left}
+use Rattle.std.proofs.Math.Nat.{one-le-pow, mul-le-mul_left, pow-le-pow_right}
 use Rattle.std.specs.Prelude.{◌==◌, IfSome, slice_get, slice_range}
 use Rattle.std.proofs.lemmas.Bool.{eqb-true, lt-ltb}
 use Rattle.std.proofs.lemmas.Bool.Decides.{nat_tests}
@@ -18,7 +18,7 @@ use Rattle.lexical_digits.proofs.DigitValues.{with_sign-step}
 use Rattle.lexical_digits.proofs.LongNumbers.{sign_held, stands}
 use Rattle.lexical_digits.proofs.ShiftedWords.{writes_text}
 use Rattle.lexical_digits.proofs.WordsInFront.{rest_is}
-use Rattle.lexical_digits.proofs.WordsOfDigits.{value_joined}
+use Rattle.lexical_digits.proofs.WordsOfDigits.{digits_below, value_joined}
 use Rattle.lexical_parse_integer.specs.Grammar.{partial}
 use Rattle.lexical_parse_integer.specs.Laws.{TellsDigits}
 use Rattle.lexical_parse_integer.specs.Plain.{BeginsWith, IsBehind, IsPlain}
@@ -27,7 +27,7 @@ use Rattle.lexical_parse_integer.specs.Stops.{stops_after_digit}
 use Rattle.lexical_parse_integer.proofs.ForCallers.{begins_read}
 use Rattle.lexical_fixed.specs.Fixed.{Fixed}
 use Rattle.lexical_fixed.specs.Grammar.{complete_fixed, is_negative}
-use Rattle.lexical_fixed.specs.Quick.{IsBare, IsFraction, IsJoined, IsLastPoint, without}
+use Rattle.lexical_fixed.specs.Quick.{IsBare, IsFraction, IsJoined, IsLastPoint, IsValueWithout, without}
 use Rattle.lexical_fixed.specs.Validity.{fixed_fault, fixed_fault_by, has_affix, is_unfit_point}
 use Rattle.lexical_fixed.specs.declared.error.FixedFormatError.{FixedFormatError}
 use Rattle.lexical_fixed.specs.declared.error.FixedFormatError.TheVariants.{Affix, Point, Radix}
@@ -138,9 +138,9 @@ plain_of f valid bare =
     }
 
 pub short_read : (f : Fixed) (t : IntegerType) (b : Bool) (text digits : List ℕ) (place number : ℕ) (value : ℤ) → IsNone (fixed_fault f) → IsBare f.integer → (IsNone f.integer.base_suffix → TellsDigits f.integer t text)
-    → IsBehind b t text digits → b ≡ is_negative t text → IsLastPoint f digits place → IsJoined (without place digits) number → number < 100000000 → value ≡ with_sign b number → IsNumber t value
+    → IsBehind b t text digits → b ≡ is_negative t text → IsLastPoint f digits place → IsJoined (without place digits) number → value ≡ with_sign b number → IsNumber t value
     → complete_fixed f t text ≡ Ok value
-short_read f t b text digits place number value valid bare law behind minus at joined small is fits =
+short_read f t b text digits place number value valid bare law behind minus at joined is fits =
     let start : ℕ = bool_byte b in
     let size = at.size in
     let before : List ℕ = take place digits in
@@ -151,6 +151,9 @@ short_read f t b text digits place number value valid bare law behind minus at j
     let long : length rest ≡ f.places = length-drop (place + 1) digits ∙ omega arith in
     let sum : number ≡ whole * 10 ^ f.places + last = joined.worth ∙ value_joined 10 before rest ∙ ap (λ n. whole * 10 ^ n + last) long in
     let one : 1 ≤ 10 ^ f.places = one-le-pow f.places 10 (omega arith) in
+    let low : last < 10 ^ length rest = digits_below rest last parts.1 refl in
+    let short : length rest ≤ 7 = omega (arith, at.short, long) in
+    let power : 10 ^ length rest ≤ 10 ^ 7 = pow-le-pow_right {n = 10} (omega arith) short in
     let up : whole * 1 ≤ whole * 10 ^ f.places = mul-le-mul_left whole one in
     let below : whole ≤ number = omega arith in
     let number_fits : is_number t (with_sign b number) ≡ true = ap (is_number t) (sym is) ∙ fits in
@@ -167,20 +170,20 @@ short_read f t b text digits place number value valid bare law behind minus at j
     let point : are_same (Some f.point) (slice_get text (start + place)) ≡ true = ap (are_same (Some f.point)) (behind_get b t text digits place behind) ∙ at.point in
     let next : start + place + 1 ≡ start + (place + 1) = omega arith in
     let behind_point : slice_range text (start + place + 1) (length text) ≡ rest = rest_is text (start + place + 1) ∙ ap (λ k. drop k text) next ∙ behind_drop b t text digits (place + 1) behind in
-    let first : WritesFirst rest last f.places = subst (λ n. WritesFirst rest last n) long (all_first rest last (omega (arith, at.few, long)) parts.1 refl) in
+    let first : WritesFirst rest last f.places = subst (λ n. WritesFirst rest last n) long (all_first rest last (omega (arith, at.short, long)) parts.1 refl) in
     let there : WritesFirst (slice_range text (start + place + 1) (length text)) last f.places = subst (λ (bs : List ℕ). WritesFirst bs last f.places) (sym behind_point) first in
-    let fraction : IsFraction f text (start + place) last f.places = few_digits f text (start + place) last f.places point there at.behind (omega (arith, at.few, at.before)) (omega arith) (omega arith) in
+    let fraction : IsFraction f text (start + place) last f.places = few_digits f text (start + place) last f.places point there at.behind (omega (arith, at.short)) (omega arith) (omega (arith, low, power)) in
     let step : value ≡ mul_add b (with_sign b whole) (pos (10 ^ f.places)) (pos last) = is ∙ ap (with_sign b) sum ∙ sym (with_sign-step b whole (10 ^ f.places) last) in
     let joined_front = front_joined f t text (with_sign b whole) value value (start + place) last f.places 0 b minus (sign_held b (with_sign b whole) whole refl) fraction step fits (omega arith) (inl (omega arith)) (inl (refl, refl)) in
     let long_text = behind_length b t text digits behind in
     let ends = last_ends f text (start + place) last f.places fraction at.behind (omega (arith, long_text, size)) (sym long ∙ ap length (sym behind_point)) in
     complete_by_front f t text value (partial_by_part f t text (with_sign b whole) (start + place) part ∙ joined_front ∙ ap (λ k. Ok (value, k)) ends)
 
--- so is a value that was found for the number
-pub short_found : {V : Type 0} (number_of : V → ℤ) (f : Fixed) (t : IntegerType) (b : Bool) (text digits : List ℕ) (place number : ℕ) (found : Option V) → IsNone (fixed_fault f) → IsBare f.integer
+-- so is a value that was found for them
+pub short_found : {V : Type 0} (number_of : V → ℤ) (f : Fixed) (t : IntegerType) (b : Bool) (text digits : List ℕ) (place : ℕ) (found : Option V) → IsNone (fixed_fault f) → IsBare f.integer
     → (IsNone f.integer.digit_separator → IsNone f.integer.base_suffix → TellsDigits f.integer t text)
-    → IsBehind b t text digits → b ≡ is_negative t text → IsLastPoint f digits place → IsJoined (without place digits) number → number < 100000000
-    → IfSome found (λ v. number_of v ≡ with_sign b number) → IfSome found (λ v. IsNumber t (number_of v)) → IfSome found (λ v. complete_fixed f t text ≡ Ok (number_of v))
-short_found number_of f t b text digits place number None valid bare law behind minus at joined small is fits = tt
-short_found number_of f t b text digits place number (Some v) valid bare law behind minus at joined small is fits =
-    short_read f t b text digits place number (number_of v) valid bare (law (is_none f.integer.digit_separator bare.no_separator)) behind minus at joined small is fits
+    → IsBehind b t text digits → b ≡ is_negative t text → IsLastPoint f digits place
+    → IfSome found (λ v. IsValueWithout t b place digits (number_of v)) → IfSome found (λ v. complete_fixed f t text ≡ Ok (number_of v))
+short_found number_of f t b text digits place None valid bare law behind minus at is = tt
+short_found number_of f t b text digits place (Some v) valid bare law behind minus at is =
+    short_read f t b text digits place is.number (number_of v) valid bare (law (is_none f.integer.digit_separator bare.no_separator)) behind minus at is.joined is.worth is.fits

@@ -1,7 +1,9 @@
 -- What the quick way finds out about a text, before it has a number.
-use Rattle.std.specs.Prelude.{◌≡◌, ◌+◌, ◌<◌, ◌≤◌, ℕ, ◌==◌, true, false, if◌then◌else◌, List, ◌++◌, drop, length, slice_get, take, None, Some}
+use Rattle.std.specs.Prelude.{◌≡◌, ◌+◌, ◌<◌, ◌≤◌, ℕ, ℤ, ◌==◌, Bool, true, false, if◌then◌else◌, List, ◌++◌, drop, length, slice_get, take, None, Some}
+use Rattle.lexical_digits.specs.Value.{with_sign}
 use Rattle.lexical_digits.specs.Words.{AreDigits, word_value}
 use Rattle.lexical_util.specs.Format.{Format}
+use Rattle.lexical_util.specs.Number.{IntegerType, IsNumber}
 use Rattle.lexical_parse_integer.specs.Runs.{are_same}
 use Rattle.lexical_fixed.specs.Fixed.{Fixed}
 use Rattle.lexical_fixed.specs.Fraction.{fraction, fraction_length, front_end, is_cut}
@@ -32,10 +34,19 @@ pub record IsBare (format : Format) : Type 0 where
   pub no_sign : format.required_mantissa_sign ≡ false
   pub no_rule : format.no_integer_leading_zeros ≡ false
 
--- The point stands in four to eight bytes, with a byte before it at least, and all places are behind it.
+-- Bytes but for the one at a place are digits, whose number is a value of a type, with a minus where `is_negative`.
+pub record IsValueWithout (type : IntegerType) (is_negative : Bool) (place : ℕ) (bytes : List ℕ)
+    (value : ℤ) : Type 0 where
+  pub number : ℕ
+  pub joined : IsJoined (without place bytes) number
+  pub worth : value ≡ with_sign is_negative number
+  pub fits : IsNumber type value
+
+-- The point stands in four to sixteen bytes, with a byte before it at least, and all places are behind it, which are few.
 pub record IsLastPoint (fixed : Fixed) (bytes : List ℕ) (place : ℕ) : Type 0 where
   pub many : 4 ≤ length bytes
-  pub few : length bytes ≤ 8
+  pub few : length bytes ≤ 16
+  pub short : fixed.places ≤ 7
   pub before : 1 ≤ place
   pub behind : 1 ≤ fixed.places
   pub size : length bytes ≡ place + 1 + fixed.places

@@ -1,14 +1,14 @@
-// The shortest way: a whole text of a few digits, a point and all places behind it, as most amounts are. Its `None` says
+// The shortest way: a whole text of some digits, a point and all places behind it, as most amounts are. Its `None` says
 // nothing of the text.
-ghost use Rattle.std.specs.Prelude.{◌≡◌, ◌≤◌, IfSome, IsNone, IsTrue, Ok, length};
+ghost use Rattle.std.specs.Prelude.{◌≡◌, ◌+◌, ◌<◌, ◌≤◌, IfSome, IsNone, IsTrue, Ok, length};
 ghost use Rattle.lexical_parse_integer.specs.Plain.{IsBehind};
 ghost use Rattle.lexical_fixed.specs.Grammar.{complete_fixed, is_negative};
-ghost use Rattle.lexical_fixed.specs.Quick.{IsBare, IsLastPoint};
+ghost use Rattle.lexical_fixed.specs.Quick.{IsBare, IsLastPoint, IsValueWithout};
 ghost use Rattle.lexical_fixed.specs.Validity.{fixed_fault};
 
 use crate::format::FixedFormat;
-use crate::joined::number_without;
-use lexical_digits::values::value_to_8;
+use crate::joined::{number_without, numbers_without};
+use lexical_digits::values::{value_of_parts, value_to_8};
 use lexical_parse_integer::laws::grammar::front_digits;
 use lexical_util::format::NumberFormat;
 use lexical_util::num::Integer;
@@ -23,13 +23,13 @@ fn is_bare(format: &NumberFormat) -> bool
         | format.no_integer_leading_zeros())
 }
 
-// The place of the point in four to eight bytes, where it has all places behind it and a byte before it.
+// The place of the point in four to sixteen bytes, where it has all places behind it, seven at most, and a byte before it.
 #[inline(always)]
 fn last_point(digits: &[u8], format: &FixedFormat) -> Option<usize>
     ensures { IfSome result (IsLastPoint format.now digits.now) }
 {
     let (size, places) = (digits.len(), format.places());
-    if size < 4 || size > 8 || places == 0 || places > size - 2 {
+    if size < 4 || size > 16 || places == 0 || places > 7 || places > size - 2 {
         return None;
     }
     let place = size - 1 - places;
@@ -51,8 +51,40 @@ fn behind_minus<T: Integer>(text: &[u8]) -> (bool, &[u8])
     (is_negative, &text[usize::from(is_negative)..])
 }
 
-/// The number that the whole text stands for, where it is up to seven digits around a point, behind a minus or none, and has
-/// all places.
+// The value of the digits of nine to sixteen bytes around the one at a place, which is among the last eight, where the type has
+// it.
+#[inline(always)]
+fn value_from_9<T: Integer>(digits: &[u8], place: usize, is_negative: bool) -> Option<T>
+    requires some { 9 ≤ length digits.now }
+    requires few { length digits.now ≤ 16 }
+    requires behind { length digits.now ≤ place + 8 }
+    requires within { place < length digits.now }
+    requires minus { IsTrue is_negative → IsTrue T.TYPE.is_signed }
+    ensures { IfSome result (λ value. IsValueWithout T.TYPE is_negative place digits.now (T.number value)) }
+{
+    let Some((high, low)) = numbers_without(digits, place) else {
+        return None;
+    };
+    value_of_parts::<T>(high, low, 10_000_000, is_negative)
+}
+
+// The value of the digits of four to eight bytes around the one at a place, where the type has it.
+#[inline(always)]
+fn value_from_4<T: Integer>(digits: &[u8], place: usize, is_negative: bool) -> Option<T>
+    requires some { 4 ≤ length digits.now }
+    requires few { length digits.now ≤ 8 }
+    requires within { place < length digits.now }
+    requires minus { IsTrue is_negative → IsTrue T.TYPE.is_signed }
+    ensures { IfSome result (λ value. IsValueWithout T.TYPE is_negative place digits.now (T.number value)) }
+{
+    match number_without(digits, place) {
+        Some(number) => value_to_8::<T>(number, is_negative),
+        None => None,
+    }
+}
+
+/// The number that the whole text stands for, where it is up to fifteen digits around a point, behind a minus or none, and has
+/// all places, which are seven at most.
 #[inline(always)]
 pub fn value_if_short<T: Integer>(text: &[u8], format: &FixedFormat) -> Option<T>
     requires valid { IsNone (fixed_fault format.now) }
@@ -68,8 +100,8 @@ pub fn value_if_short<T: Integer>(text: &[u8], format: &FixedFormat) -> Option<T
     let Some(place) = last_point(digits, format) else {
         return None;
     };
-    match number_without(digits, place) {
-        Some(number) => value_to_8::<T>(number, is_negative),
-        None => None,
+    if digits.len() <= 8 {
+        return value_from_4::<T>(digits, place, is_negative);
     }
+    value_from_9::<T>(digits, place, is_negative)
 }

@@ -8,13 +8,15 @@ returns c =
     let digits = c.args.digits.now in
     let places = c.places-places.result in
     let many : 4 ≤ length digits = grind (arith, nat_tests, c.if-size-lt4.false) in
-    let few : length digits ≤ 8 = grind (arith, nat_tests, c.if-size-gt8.false) in
+    let few : length digits ≤ 16 = grind (arith, nat_tests, c.if-size-gt16.false) in
+    let short : places ≤ 7 = grind (arith, nat_tests, c.if-places-gt7.false) in
     let some : 1 ≤ places = grind (arith, nat_tests, c.if-places-eq0.false) in
     let room : places ≤ length digits - 2 = grind (arith, nat_tests, c.if-places-size.false) in
     let same : get_or digits (length digits - 1 - places) 0 ≡ c.args.format.now.point = grind (arith, nat_tests, c.if-digits-place.false, c.point.ensures) in
     record {
       many = many;
       few = few;
+      short = omega (arith, short, c.places-places.ensures);
       before = omega (arith, many, some, room);
       behind = omega (arith, some, c.places-places.ensures);
       size = omega (arith, many, some, room, c.places-places.ensures);
