@@ -22,11 +22,11 @@ use Rattle.lexical_fixed.specs.Quick.{IsFraction, IsJoined}
 use Rattle.lexical_fixed.proofs.QuickFronts.{few_digits, no_point}
 
 -- bytes that have values are digits, worth these
-record HaveValues (bytes values : List ℕ) : Type 0 where
-  digits : AreDigits 10 bytes
-  worth : map (λ byte. byte - 48) bytes ≡ values
+pub record HaveValues (bytes values : List ℕ) : Type 0 where
+  pub digits : AreDigits 10 bytes
+  pub worth : map (λ byte. byte - 48) bytes ≡ values
 
-have_values : (bytes values : List ℕ) → map (λ byte. digit 10 byte) bytes ≡ map Some values → HaveValues bytes values
+pub have_values : (bytes values : List ℕ) → map (λ byte. digit 10 byte) bytes ≡ map Some values → HaveValues bytes values
 have_values [] [] same = record { digits = tt; worth = refl }
 have_values [] (v ∷ vs) same = absurd (cc)
 have_values (b ∷ bs) [] same = absurd (cc)
