@@ -180,16 +180,18 @@ impl ArrayFields<'_> {
         }
     }
 
-    // Puts the fixed-point number of a text's first bytes, so many, into a row's place, where there is an array and the number is
-    // had at once.
+    // Puts the fixed-point number of a text's first bytes, so many, into a row's place, where the number is had at once and
+    // the array's type is known.
     #[inline(always)]
     pub(crate) fn put_fixed_at_once(
         &mut self,
+        numbers: NumberType,
         row: usize,
         ahead: &[u8],
         size: usize,
         format: &FixedFormat,
     ) -> bool
+        requires numbers { number_type self.old ≡ Some numbers }
         requires valid { IsNone (fixed_fault format.now) }
         requires room { IfSome (array_in self.old) (λ array. row < length array.numbers) }
         requires within { size ≤ length ahead.now }
@@ -201,16 +203,15 @@ impl ArrayFields<'_> {
             (record { start = start; text = take size ahead.now }))) (array_in self.old) }
         ensures kept { result ≡ false → array_in self.new ≡ array_in self.old }
     {
-        match self.number_type() {
-            None => false,
-            Some(NumberType::I64) => put_fixed_at_once(self.i64s, row, ahead, size, format),
-            Some(NumberType::U64) => put_fixed_at_once(self.u64s, row, ahead, size, format),
-            Some(NumberType::I32) => put_fixed_at_once(self.i32s, row, ahead, size, format),
-            Some(NumberType::U32) => put_fixed_at_once(self.u32s, row, ahead, size, format),
-            Some(NumberType::I16) => put_fixed_at_once(self.i16s, row, ahead, size, format),
-            Some(NumberType::U16) => put_fixed_at_once(self.u16s, row, ahead, size, format),
-            Some(NumberType::I8) => put_fixed_at_once(self.i8s, row, ahead, size, format),
-            Some(NumberType::U8) => put_fixed_at_once(self.u8s, row, ahead, size, format),
+        match numbers {
+            NumberType::I64 => put_fixed_at_once(self.i64s, row, ahead, size, format),
+            NumberType::U64 => put_fixed_at_once(self.u64s, row, ahead, size, format),
+            NumberType::I32 => put_fixed_at_once(self.i32s, row, ahead, size, format),
+            NumberType::U32 => put_fixed_at_once(self.u32s, row, ahead, size, format),
+            NumberType::I16 => put_fixed_at_once(self.i16s, row, ahead, size, format),
+            NumberType::U16 => put_fixed_at_once(self.u16s, row, ahead, size, format),
+            NumberType::I8 => put_fixed_at_once(self.i8s, row, ahead, size, format),
+            NumberType::U8 => put_fixed_at_once(self.u8s, row, ahead, size, format),
         }
     }
 

@@ -64,10 +64,11 @@ impl ColumnFields<'_> {
         if !self.description.has_standard_integer() {
             return false;
         }
-        let Some(_) = self.arrays.number_type() else {
+        let format = self.description.plain();
+        let Some(numbers) = self.arrays.number_type() else {
             return false;
         };
-        let format = self.description.plain();
-        self.arrays.put_fixed_at_once(row, ahead, size, &format)
+        self.arrays
+            .put_fixed_at_once(numbers, row, ahead, size, &format)
     }
 }

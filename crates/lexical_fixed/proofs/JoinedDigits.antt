@@ -3,7 +3,7 @@ use Rattle.std.proofs.Common.{◌≡◌, ℕ, zero, suc, ◌+◌, ◌-◌, ◌*�
 use Rattle.std.proofs.lemmas.List.{length-drop, length-take-le}
 use Rattle.lexical_digits.specs.Words.{AreDigits, word_bytes, word_value}
 use Rattle.lexical_digits.specs.WrittenNumbers.{bytes_number, with_more}
-use Rattle.lexical_digits.proofs.WordsOfDigits.{AllBytes, HoldsDigits, all_dropped, all_taken, bytes_small, holds_digits, padded, padded_value, raised_none}
+use Rattle.lexical_digits.proofs.WordsOfDigits.{AllBytes, HoldsDigits, all_dropped, all_taken, bytes_small, digits_joined, holds_digits, padded, padded_value, raised_none, value_joined}
 use Rattle.lexical_fixed.specs.Quick.{IsJoined, without}
 
 -- ---- the word
@@ -149,3 +149,32 @@ joined_read bytes word number some few all is digits worth =
     first_small : (bs : List ℕ) → AllBytes bs → get_or bs 0 0 + 0 < 256
     first_small [] all = omega arith
     first_small (b ∷ bs) all = let low = all.0 in omega arith
+
+-- ---- the bytes before a word
+
+-- without a byte behind the first ones, these stand in front of what is left of the others
+without_behind : (k place : ℕ) (bytes : List ℕ) → k ≤ place → k ≤ length bytes → without place bytes ≡ take k bytes ++ without (place - k) (drop k bytes)
+without_behind zero place bytes before within = let same : place ≡ place - 0 = omega arith in ap (λ n. without n bytes) same
+without_behind (suc k) zero bytes before within = absurd (omega arith)
+without_behind (suc k) (suc p) [] before within = absurd (omega arith)
+without_behind (suc k) (suc p) (b ∷ bs) before within =
+    let next : suc p + 1 ≡ suc (p + 1) = omega arith in
+    let left : suc p - suc k ≡ p - k = omega arith in
+    rw (next, left) (ap (λ (rest : List ℕ). b ∷ rest) (without_behind k p bs (omega arith) (omega arith)))
+
+-- so their number is joined with that of the others
+pub parts_joined : (k place : ℕ) (bytes : List ℕ) (high low : ℕ) → k ≤ place → place < length bytes → length bytes ≡ k + 8
+    → AreDigits 10 (take k bytes) → high ≡ word_value 10 (take k bytes) → IsJoined (without (place - k) (drop k bytes)) low
+    → IsJoined (without place bytes) (high * 10000000 + low)
+parts_joined k place bytes high low before within size digits worth rest =
+    let xs : List ℕ = take k bytes in
+    let ys : List ℕ = without (place - k) (drop k bytes) in
+    let parts : without place bytes ≡ xs ++ ys = without_behind k place bytes before (omega arith) in
+    let left : length (drop k bytes) ≡ length bytes - k = length-drop k bytes in
+    let seven : length ys ≡ 7 = without_length (place - k) (drop k bytes) (omega arith) ∙ omega arith in
+    let power : 10 ^ length ys ≡ 10000000 = ap (λ n. 10 ^ n) seven in
+    record {
+      digits = subst (λ (bs : List ℕ). AreDigits 10 bs) (sym parts) (digits_joined 10 xs ys digits rest.digits);
+      worth = sym (ap (word_value 10) parts ∙ value_joined 10 xs ys ∙ ap (λ n. word_value 10 xs * n + word_value 10 ys) power
+          ∙ ap (λ n. n * 10000000 + word_value 10 ys) (sym worth) ∙ ap (λ n. high * 10000000 + n) (sym rest.worth));
+    }

@@ -18,15 +18,15 @@ use Rattle.lexical_digits.proofs.WordsOfDigits.{digits_below, raised_none}
 use Rattle.lexical_parse_integer.specs.Runs.{are_same}
 use Rattle.lexical_fixed.specs.Fixed.{Fixed}
 use Rattle.lexical_fixed.specs.Fraction.{front_end}
-use Rattle.lexical_fixed.specs.Quick.{IsFraction}
+use Rattle.lexical_fixed.specs.Quick.{IsFraction, IsJoined}
 use Rattle.lexical_fixed.proofs.QuickFronts.{few_digits, no_point}
 
 -- bytes that have values are digits, worth these
-record HaveValues (bytes values : List ℕ) : Type 0 where
-  digits : AreDigits 10 bytes
-  worth : map (λ byte. byte - 48) bytes ≡ values
+pub record HaveValues (bytes values : List ℕ) : Type 0 where
+  pub digits : AreDigits 10 bytes
+  pub worth : map (λ byte. byte - 48) bytes ≡ values
 
-have_values : (bytes values : List ℕ) → map (λ byte. digit 10 byte) bytes ≡ map Some values → HaveValues bytes values
+pub have_values : (bytes values : List ℕ) → map (λ byte. digit 10 byte) bytes ≡ map Some values → HaveValues bytes values
 have_values [] [] same = record { digits = tt; worth = refl }
 have_values [] (v ∷ vs) same = absurd (cc)
 have_values (b ∷ bs) [] same = absurd (cc)
@@ -39,21 +39,30 @@ have_values (b ∷ bs) (v ∷ vs) same =
     let worth : b - 48 ≡ v = grind (arith, first, value) in
     record { digits = (is, rest.digits); worth = rw worth (ap (λ (all : List ℕ). v ∷ all) rest.worth) }
 
--- the first digits are all of the text
-pub first_digits : (t : IntegerType) (bytes : List ℕ) (number : ℕ) → length bytes ≤ 4 → StandsFor t 10 false bytes (pos number) → WritesFirst bytes number (length bytes)
-first_digits t bytes number few s =
+-- bytes that stand for a number are its digits
+pub joined_digits : (t : IntegerType) (bytes : List ℕ) (number : ℕ) → StandsFor t 10 false bytes (pos number) → IsJoined bytes number
+joined_digits t bytes number s =
     let w = s.writes in
     let same : map (λ byte. digit 10 byte) bytes ≡ map Some w.values = ap (map (λ byte. digit 10 byte)) (sym (take-length bytes)) ∙ w.digits in
     let have = have_values bytes w.values same in
-    let taken = raised_none (take (length bytes) bytes) ∙ take-length bytes in
     let equal : pos number ≡ pos (positional_value 10 w.values) = s.worth ∙ w.worth in
     let number_is : number ≡ positional_value 10 w.values = grind (arith, equal) in
+    record {
+      digits = have.digits;
+      worth = number_is ∙ ap (positional_value 10) (sym have.worth);
+    }
+
+-- the first digits are all of the text
+pub first_digits : (t : IntegerType) (bytes : List ℕ) (number : ℕ) → length bytes ≤ 4 → StandsFor t 10 false bytes (pos number) → WritesFirst bytes number (length bytes)
+first_digits t bytes number few s =
+    let all = joined_digits t bytes number s in
+    let taken = raised_none (take (length bytes) bytes) ∙ take-length bytes in
     record {
       few = omega arith;
       within = omega arith;
       writes = record {
-        digits = subst (λ (all : List ℕ). AreDigits 10 all) (sym taken) have.digits;
-        worth = number_is ∙ ap (positional_value 10) (sym have.worth) ∙ ap (word_value 10) (sym taken);
+        digits = subst (λ (all : List ℕ). AreDigits 10 all) (sym taken) all.digits;
+        worth = all.worth ∙ ap (word_value 10) (sym taken);
       };
       stops = λ less more. absurd (omega arith);
     }

@@ -1,7 +1,10 @@
 -- What the quick way finds out about a text, before it has a number.
-use Rattle.std.specs.Prelude.{◌≡◌, ◌+◌, ◌<◌, ◌≤◌, ℕ, ◌==◌, true, false, if◌then◌else◌, List, ◌++◌, drop, length, slice_get, take, None, Some}
+use Rattle.std.specs.Prelude.{◌≡◌, ◌+◌, ◌-◌, ◌^◌, pos, ◌<◌, ◌≤◌, ℕ, ℤ, ◌==◌, Bool, true, false, if◌then◌else◌, List, ◌++◌, drop, length, slice_get, take, None, Some}
+use Rattle.lexical_digits.specs.Value.{with_sign}
 use Rattle.lexical_digits.specs.Words.{AreDigits, word_value}
 use Rattle.lexical_util.specs.Format.{Format}
+use Rattle.lexical_digits.specs.WrittenNumbers.{StandsFor}
+use Rattle.lexical_util.specs.Number.{IntegerType, IsNumber, is_number, mul_add}
 use Rattle.lexical_parse_integer.specs.Runs.{are_same}
 use Rattle.lexical_fixed.specs.Fixed.{Fixed}
 use Rattle.lexical_fixed.specs.Fraction.{fraction, fraction_length, front_end, is_cut}
@@ -32,11 +35,44 @@ pub record IsBare (format : Format) : Type 0 where
   pub no_sign : format.required_mantissa_sign ≡ false
   pub no_rule : format.no_integer_leading_zeros ≡ false
 
--- The point stands in four to eight bytes, with a byte before it at least, and all places are behind it.
-pub record IsLastPoint (fixed : Fixed) (bytes : List ℕ) (place : ℕ) : Type 0 where
-  pub many : 4 ≤ length bytes
-  pub few : length bytes ≤ 8
+-- Bytes but for the one at a place are digits, whose number is a value of a type, with a minus where `is_negative`.
+pub record IsValueWithout (type : IntegerType) (is_negative : Bool) (place : ℕ) (bytes : List ℕ)
+    (value : ℤ) : Type 0 where
+  pub number : ℕ
+  pub joined : IsJoined (without place bytes) number
+  pub worth : value ≡ with_sign is_negative number
+  pub fits : IsNumber type value
+
+-- The point stands in up to sixteen bytes, with a byte before it at least, and so many behind it, which are few: as many as
+-- there are places, or fewer.
+pub record IsLastPoint (fixed : Fixed) (bytes : List ℕ) (place count : ℕ) : Type 0 where
+  pub few : length bytes ≤ 16
+  pub short : count ≤ 7
   pub before : 1 ≤ place
-  pub behind : 1 ≤ fixed.places
-  pub size : length bytes ≡ place + 1 + fixed.places
+  pub behind : 1 ≤ count
+  pub room : count ≤ fixed.places
+  pub size : length bytes ≡ place + 1 + count
   pub point : are_same (Some fixed.point) (slice_get bytes place) ≡ true
+
+-- A value is that of digits with fewer behind the point than there are places, as the description takes them, and zeros for
+-- the others.
+pub record IsFilled (fixed : Fixed) (type : IntegerType) (is_negative : Bool) (bytes : List ℕ)
+    (value : ℤ) : Type 0 where
+  pub place : ℕ
+  pub count : ℕ
+  pub written : ℤ
+  pub takes : fixed.takes_fewer ≡ true
+  pub point : IsLastPoint fixed bytes place count
+  pub digits : IsValueWithout type is_negative place bytes written
+  pub filled : value ≡ mul_add is_negative written (pos (10 ^ (fixed.places - count))) (pos 0)
+  pub fits : is_number type value ≡ true
+
+-- A value is that of digits without a point, as the description takes them, and zeros for all places.
+pub record IsFilledWhole (fixed : Fixed) (type : IntegerType) (is_negative : Bool)
+    (bytes : List ℕ) (value : ℤ) : Type 0 where
+  pub written : ℤ
+  pub takes : fixed.takes_fewer ≡ true
+  pub some : 1 ≤ length bytes
+  pub stands : StandsFor type 10 is_negative bytes written
+  pub filled : value ≡ mul_add is_negative written (pos (10 ^ fixed.places)) (pos 0)
+  pub fits : is_number type value ≡ true

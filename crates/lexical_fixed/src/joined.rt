@@ -1,8 +1,10 @@
-// The digits around a point as one number: a short text is read as one word, from which the point is taken out.
+// The digits around a point as one number: of a short text, or of the last eight bytes of a longer one, a word is made, from which
+// the point is taken out.
 ghost use Rattle.std.specs.Prelude.{◌≡◌, ◌+◌, ◌-◌, ◌*◌, ◌/◌, ◌%◌, ◌^◌, ◌<◌, ◌≤◌, IfSome, length, slice_range};
 ghost use Rattle.lexical_digits.specs.WrittenNumbers.{bytes_number};
 ghost use Rattle.lexical_fixed.specs.Quick.{IsJoined, without};
 
+use lexical_digits::values::value_to_16;
 use lexical_digits::words::{is_8digits, parse_8digits};
 
 // Four bytes of a text.
@@ -65,4 +67,27 @@ pub(crate) fn number_without(text: &[u8], place: usize) -> Option<u32>
         return None;
     }
     Some(parse_8digits(digits, 10) as u32)
+}
+
+// The number of the last seven digits of nine to sixteen bytes around the one at a place, which is among the last eight, and of
+// the digits before those.
+#[inline(always)]
+pub(crate) fn numbers_without(text: &[u8], place: usize) -> Option<(u32, u32)>
+    requires some { 9 ≤ length text.now }
+    requires few { length text.now ≤ 16 }
+    requires behind { length text.now ≤ place + 8 }
+    requires within { place < length text.now }
+    ensures joined { IfSome result
+        (λ parts. IsJoined (without place text.now) (parts.0 * 10000000 + parts.1)) }
+    ensures high { IfSome result (λ parts. parts.0 < 100000000) }
+    ensures low { IfSome result (λ parts. parts.1 < 100000000) }
+{
+    let first = text.len() - 8;
+    let Some(high) = value_to_16::<u32>(&text[..first], false) else {
+        return None;
+    };
+    let Some(low) = number_without(&text[first..], place - first) else {
+        return None;
+    };
+    Some((high, low))
 }

@@ -1,8 +1,8 @@
 //! The parsers in two halves, under a valid description: for this crate, and for calls from C.
 //!
 //! The first half has at once what most texts are, and its `None` says nothing of a text. The second half, for what the first
-//! one left, has the answer. Up to seven digits around a point are read by one word. Other texts are read in one walk, where the
-//! integer part is digits alone and the fraction is short.
+//! one left, has the answer. Up to fifteen digits around a point are read by one word or two. Other texts are read in one walk,
+//! where the integer part is digits alone and the fraction is short.
 ghost use Rattle.std.specs.Prelude.{◌≡◌, ◌==◌, ◌≤◌, ◌<◌, ◌+◌, ◌^◌, if◌then◌else◌, IfSome, IsNone, Ok, length, pos, true};
 ghost use Rattle.lexical_util.specs.Number.{HasSign, is_number, mul_add};
 ghost use Rattle.lexical_parse_integer.specs.Answer.{with_place};
@@ -15,7 +15,7 @@ use crate::format::FixedFormat;
 use crate::fraction::stands_at;
 use crate::parse::is_negative;
 pub use crate::parse::{complete_if_not_short, partial_if_left};
-pub use crate::short::value_if_short;
+pub use crate::short::{value_at_once, value_if_short};
 use lexical_digits::fronts::number_in_front;
 use lexical_digits::values::value_to_16;
 use lexical_parse_integer::laws::grammar::front_digits;
@@ -47,7 +47,12 @@ fn power_of_ten(exponent: usize) -> u32
 
 // The number with so many digits behind it, which write another, where the type has that.
 #[inline(always)]
-fn append_number<T: Integer>(value: T, number: u32, count: usize, is_negative: bool) -> Option<T>
+pub(crate) fn append_number<T: Integer>(
+    value: T,
+    number: u32,
+    count: usize,
+    is_negative: bool,
+) -> Option<T>
     requires bits { 32 ≤ T.TYPE.bits }
     requires small { number < 100000000 }
     requires few { count < 10 }
@@ -171,30 +176,6 @@ fn plain_part<T: Integer>(text: &[u8], format: &FixedFormat) -> Option<(T, usize
         return None;
     }
     Some((whole, place))
-}
-
-// `whole_at_once`, out of line, so that a short text pays for none of it.
-#[inline(never)]
-fn long_at_once<T: Integer>(text: &[u8], format: FixedFormat) -> Option<T>
-    requires valid { IsNone (fixed_fault format) }
-    ensures { IfSome result
-        (λ units. complete_fixed format T.TYPE text.now ≡ Ok (T.number units)) }
-{
-    whole_at_once::<T>(text, &format)
-}
-
-/// The number that the whole text stands for, where it is digits around a point, behind a minus or none, and few of them stand
-/// behind the point.
-#[inline(always)]
-pub fn value_at_once<T: Integer>(text: &[u8], format: &FixedFormat) -> Option<T>
-    requires valid { IsNone (fixed_fault format.now) }
-    ensures { IfSome result
-        (λ units. complete_fixed format.now T.TYPE text.now ≡ Ok (T.number units)) }
-{
-    match value_if_short::<T>(text, format) {
-        Some(value) => Some(value),
-        None => long_at_once::<T>(text, *format),
-    }
 }
 
 /// The number in front of the text, and the place at which reading stops.

@@ -1,14 +1,15 @@
-// The shortest way: a whole text of a few digits, a point and all places behind it, as most amounts are. Its `None` says
-// nothing of the text.
-ghost use Rattle.std.specs.Prelude.{◌≡◌, ◌≤◌, IfSome, IsNone, IsTrue, Ok, length};
+// The shortest ways: a whole text of some digits and a point, as most amounts are, with all places behind it, or fewer where the
+// description takes that. `None` says nothing of the text.
+ghost use Rattle.std.specs.Prelude.{◌≡◌, ◌+◌, ◌<◌, ◌≤◌, IfSome, IsNone, IsTrue, Ok, length, true};
 ghost use Rattle.lexical_parse_integer.specs.Plain.{IsBehind};
 ghost use Rattle.lexical_fixed.specs.Grammar.{complete_fixed, is_negative};
-ghost use Rattle.lexical_fixed.specs.Quick.{IsBare, IsLastPoint};
+ghost use Rattle.lexical_fixed.specs.Quick.{IsBare, IsFilled, IsFilledWhole, IsLastPoint, IsValueWithout};
 ghost use Rattle.lexical_fixed.specs.Validity.{fixed_fault};
 
 use crate::format::FixedFormat;
-use crate::joined::number_without;
-use lexical_digits::values::value_to_8;
+use crate::joined::{number_without, numbers_without};
+use crate::quick::append_number;
+use lexical_digits::values::{value_of_parts, value_to_8, value_to_16};
 use lexical_parse_integer::laws::grammar::front_digits;
 use lexical_util::format::NumberFormat;
 use lexical_util::num::Integer;
@@ -23,16 +24,19 @@ fn is_bare(format: &NumberFormat) -> bool
         | format.no_integer_leading_zeros())
 }
 
-// The place of the point in four to eight bytes, where it has all places behind it and a byte before it.
+// The place of the point in so many to sixteen bytes, where it has so many behind it, seven at most, and a byte before it.
 #[inline(always)]
-fn last_point(digits: &[u8], format: &FixedFormat) -> Option<usize>
-    ensures { IfSome result (IsLastPoint format.now digits.now) }
+fn point_before(digits: &[u8], format: &FixedFormat, least: usize, count: usize) -> Option<usize>
+    requires least { 3 ≤ least }
+    requires count { count ≤ format.now.places }
+    ensures point { IfSome result (λ place. IsLastPoint format.now digits.now place count) }
+    ensures many { IfSome result (λ place. least ≤ length digits.now) }
 {
-    let (size, places) = (digits.len(), format.places());
-    if size < 4 || size > 8 || places == 0 || places > size - 2 {
+    let size = digits.len();
+    if size < least || size > 16 || count == 0 || count > 7 || count > size - 2 {
         return None;
     }
-    let place = size - 1 - places;
+    let place = size - 1 - count;
     if digits[place] != format.point() {
         return None;
     }
@@ -51,8 +55,132 @@ fn behind_minus<T: Integer>(text: &[u8]) -> (bool, &[u8])
     (is_negative, &text[usize::from(is_negative)..])
 }
 
-/// The number that the whole text stands for, where it is up to seven digits around a point, behind a minus or none, and has
-/// all places.
+// The value of the digits of nine to sixteen bytes around the one at a place, which is among the last eight, where the type has
+// it.
+#[inline(always)]
+fn value_from_9<T: Integer>(digits: &[u8], place: usize, is_negative: bool) -> Option<T>
+    requires some { 9 ≤ length digits.now }
+    requires few { length digits.now ≤ 16 }
+    requires behind { length digits.now ≤ place + 8 }
+    requires within { place < length digits.now }
+    requires minus { IsTrue is_negative → IsTrue T.TYPE.is_signed }
+    ensures { IfSome result
+        (λ value. IsValueWithout T.TYPE is_negative place digits.now (T.number value)) }
+{
+    let Some((high, low)) = numbers_without(digits, place) else {
+        return None;
+    };
+    value_of_parts::<T>(high, low, 10_000_000, is_negative)
+}
+
+// The value of the digits of four to eight bytes around the one at a place, where the type has it.
+#[inline(always)]
+fn value_from_4<T: Integer>(digits: &[u8], place: usize, is_negative: bool) -> Option<T>
+    requires some { 4 ≤ length digits.now }
+    requires few { length digits.now ≤ 8 }
+    requires within { place < length digits.now }
+    requires minus { IsTrue is_negative → IsTrue T.TYPE.is_signed }
+    ensures { IfSome result
+        (λ value. IsValueWithout T.TYPE is_negative place digits.now (T.number value)) }
+{
+    match number_without(digits, place) {
+        Some(number) => value_to_8::<T>(number, is_negative),
+        None => None,
+    }
+}
+
+// The value of the digits of three bytes around the second.
+#[inline(always)]
+fn value_of_3<T: Integer>(digits: &[u8], is_negative: bool) -> Option<T>
+    requires three { length digits.now ≡ 3 }
+    requires minus { IsTrue is_negative → IsTrue T.TYPE.is_signed }
+    ensures { IfSome result
+        (λ value. IsValueWithout T.TYPE is_negative 1 digits.now (T.number value)) }
+{
+    value_to_16::<T>(&[digits[0], digits[2]], is_negative)
+}
+
+// The value of the digits of four to sixteen bytes around the one at a place, which is among the last eight.
+#[inline(always)]
+fn value_around<T: Integer>(digits: &[u8], place: usize, is_negative: bool) -> Option<T>
+    requires some { 4 ≤ length digits.now }
+    requires few { length digits.now ≤ 16 }
+    requires behind { length digits.now ≤ place + 8 }
+    requires within { place < length digits.now }
+    requires minus { IsTrue is_negative → IsTrue T.TYPE.is_signed }
+    ensures { IfSome result
+        (λ value. IsValueWithout T.TYPE is_negative place digits.now (T.number value)) }
+{
+    if digits.len() <= 8 {
+        return value_from_4::<T>(digits, place, is_negative);
+    }
+    value_from_9::<T>(digits, place, is_negative)
+}
+
+// The value of the digits of three to sixteen bytes around the one at a place, which is among the last eight and not the last.
+#[inline(always)]
+fn value_by_point<T: Integer>(digits: &[u8], place: usize, is_negative: bool) -> Option<T>
+    requires some { 3 ≤ length digits.now }
+    requires few { length digits.now ≤ 16 }
+    requires before { 1 ≤ place }
+    requires behind { length digits.now ≤ place + 8 }
+    requires within { place + 1 < length digits.now }
+    requires minus { IsTrue is_negative → IsTrue T.TYPE.is_signed }
+    ensures { IfSome result
+        (λ value. IsValueWithout T.TYPE is_negative place digits.now (T.number value)) }
+{
+    if digits.len() == 3 {
+        return value_of_3::<T>(digits, is_negative);
+    }
+    value_around::<T>(digits, place, is_negative)
+}
+
+// The value of digits with fewer behind the point than there are places, where the description takes that.
+#[inline(always)]
+fn value_of_fewer<T: Integer>(digits: &[u8], format: &FixedFormat, is_negative: bool) -> Option<T>
+    requires bits { 32 ≤ T.TYPE.bits }
+    requires minus { IsTrue is_negative → IsTrue T.TYPE.is_signed }
+    requires takes { format.now.takes_fewer ≡ true }
+    ensures { IfSome result
+        (λ value. IsFilled format.now T.TYPE is_negative digits.now (T.number value)) }
+{
+    let places = format.places();
+    if places > 9 {
+        return None;
+    }
+    let mut count = places;
+    while count > 1 {
+        count -= 1;
+        if let Some(place) = point_before(digits, format, 3, count) {
+            let Some(written) = value_by_point::<T>(digits, place, is_negative) else {
+                return None;
+            };
+            return append_number::<T>(written, 0, places - count, is_negative);
+        }
+    }
+    None
+}
+
+// The value of up to sixteen digits without a point, where the description takes that.
+#[inline(always)]
+fn value_of_whole<T: Integer>(digits: &[u8], format: &FixedFormat, is_negative: bool) -> Option<T>
+    requires bits { 32 ≤ T.TYPE.bits }
+    requires minus { IsTrue is_negative → IsTrue T.TYPE.is_signed }
+    requires takes { format.now.takes_fewer ≡ true }
+    ensures { IfSome result
+        (λ value. IsFilledWhole format.now T.TYPE is_negative digits.now (T.number value)) }
+{
+    if digits.is_empty() || digits.len() > 16 || format.places() > 9 {
+        return None;
+    }
+    let Some(written) = value_to_16::<T>(digits, is_negative) else {
+        return None;
+    };
+    append_number::<T>(written, 0, format.places(), is_negative)
+}
+
+/// The number that the whole text stands for, where it is three to fifteen digits around a point, behind a minus or none, and
+/// has all places, which are seven at most.
 #[inline(always)]
 pub fn value_if_short<T: Integer>(text: &[u8], format: &FixedFormat) -> Option<T>
     requires valid { IsNone (fixed_fault format.now) }
@@ -65,11 +193,34 @@ pub fn value_if_short<T: Integer>(text: &[u8], format: &FixedFormat) -> Option<T
         return None;
     }
     let (is_negative, digits) = behind_minus::<T>(text);
-    let Some(place) = last_point(digits, format) else {
+    let Some(place) = point_before(digits, format, 4, format.places()) else {
         return None;
     };
-    match number_without(digits, place) {
-        Some(number) => value_to_8::<T>(number, is_negative),
-        None => None,
+    value_around::<T>(digits, place, is_negative)
+}
+
+/// The number that the whole text stands for, where it is two to fifteen digits around a point, behind a minus or none, and has
+/// all places, which are seven at most; or fewer, or none and no point, where the description takes that.
+#[inline(always)]
+pub fn value_at_once<T: Integer>(text: &[u8], format: &FixedFormat) -> Option<T>
+    requires valid { IsNone (fixed_fault format.now) }
+    ensures { IfSome result
+        (λ units. complete_fixed format.now T.TYPE text.now ≡ Ok (T.number units)) }
+{
+    // The law by which the front has a digit.
+    front_digits();
+    if !is_bare(format.integer()) || text.is_empty() {
+        return None;
     }
+    let (is_negative, digits) = behind_minus::<T>(text);
+    if let Some(place) = point_before(digits, format, 3, format.places()) {
+        return value_by_point::<T>(digits, place, is_negative);
+    }
+    if T::BITS < 32 || !format.takes_fewer() {
+        return None;
+    }
+    if let Some(units) = value_of_fewer::<T>(digits, format, is_negative) {
+        return Some(units);
+    }
+    value_of_whole::<T>(digits, format, is_negative)
 }

@@ -6,11 +6,11 @@ ghost use Rattle.lexical_tables.specs.Codes.{AreCodes, IsCodeIn};
 
 use crate::answers::TableError;
 use crate::by_column::read_by_column;
-use crate::codes::{CODED, NOT_READ, TEXTS, U8, UNKNOWN};
+use crate::codes::{CODED, NOT_READ, U8, UNKNOWN};
 use crate::content::Cell;
 use crate::dialect::Dialect;
 use crate::digit_cells::{read_coded, read_long_coded};
-use crate::known_cells::{read_known, read_plain_text};
+use crate::known_cells::{read_known, read_plain};
 use crate::targets::TableColumn;
 use lexical_parse_integer::Options;
 
@@ -91,10 +91,11 @@ fn read_long_cell<C: TableColumn>(
     )
 }
 
-// Reads the cell of a column of texts as `read_plain_text` does, the first bytes of a text, so many.
+// Reads the cell of a column as `read_plain` does, the first bytes of a text, so many.
 #[inline(always)]
 fn read_plain_cell<C: TableColumn>(
     targets: &mut [C],
+    code: u8,
     column: usize,
     row: usize,
     start: usize,
@@ -103,7 +104,7 @@ fn read_plain_cell<C: TableColumn>(
     dialect: &Dialect<'_>,
 ) -> bool
     requires code { column < length targets.old
-        → IsCodeIn dialect.now TEXTS (get_or (map C.target targets.old) column None) }
+        → IsCodeIn dialect.now code (get_or (map C.target targets.old) column None) }
     requires usable { AreUsable (row + 1) (map C.target targets.old) }
     requires within { size ≤ length ahead.now }
     ensures fault { IsTrue result → fault_in (answer_at dialect.now
@@ -117,7 +118,12 @@ fn read_plain_cell<C: TableColumn>(
     if dialect.has_quotes || column >= targets.len() {
         return false;
     }
-    read_plain_text(&mut targets[column], row, start, ahead, size, dialect)
+    let cell = Cell {
+        start,
+        text: &ahead[..size],
+        ahead,
+    };
+    read_plain(&mut targets[column], code, row, cell, dialect)
 }
 
 // Reads the cell of a column as `read_known` does, the first bytes of a text, so many. Why out of line: docs/DECISIONS.md, code.
@@ -207,10 +213,8 @@ fn read_by_code<C: TableColumn>(
     if code <= NOT_READ {
         return false;
     }
-    if code == TEXTS {
-        if read_plain_cell(targets, column, row, start, ahead, size, dialect) {
-            return true;
-        }
+    if read_plain_cell(targets, code, column, row, start, ahead, size, dialect) {
+        return true;
     }
     read_known_cell(targets, code, column, row, start, ahead, size, dialect)
 }

@@ -1,10 +1,11 @@
 //! Cells whose columns have texts, or numbers that are had at once.
 
-ghost use Rattle.std.specs.Prelude.{◌≡◌, ◌+◌, ◌<◌, ◌≤◌, ◌^◌, IsTrue, None, false, length, option_map, take, true};
+ghost use Rattle.std.specs.Prelude.{◌≡◌, ◌&&◌, ◌+◌, ◌<◌, ◌≤◌, ◌^◌, IsTrue, None, false, length, option_map, take, true};
+ghost use Rattle.std.specs.Str.{bytes_eq};
 ghost use Rattle.lexical_tables.specs.ByColumn.{IsUsable, fault_in, kind_of, put_read};
 ghost use Rattle.lexical_tables.specs.Cells.{answer_as, quote_fault, view_of_cell};
 ghost use Rattle.lexical_tables.specs.Codes.{IsCodeIn};
-ghost use Rattle.lexical_tables.specs.Targets.{has_numbers, keeps_text, put_text, text_fault};
+ghost use Rattle.lexical_tables.specs.Targets.{has_bits, has_numbers, keeps_text, put_text, text_fault};
 
 use crate::cell_text::CellText;
 use crate::codes::{AT_ONCE, TEXTS};
@@ -50,38 +51,43 @@ pub(crate) fn read_text<C: TableColumn>(
     true
 }
 
-// Reads a cell in its column of texts where quotes have no meaning, the first bytes of a text, so many, if the mark has another
-// size, and tells whether it did: so no byte is read.
+// Whether a text may be the mark of a column: it has that many bytes. None of them is read.
+#[inline(always)]
+fn may_be_mark<C: TableColumn>(target: &C, text: &[u8], mark: &[u8]) -> bool
+    ensures { result ≡ false
+        → (has_bits (C.target target.now) && bytes_eq text.now mark.now) ≡ false }
+{
+    if !target.may_miss() {
+        return false;
+    }
+    text.len() == mark.len()
+}
+
+// Reads a cell in its column of texts where quotes have no meaning, if it can't be the mark, and tells whether it did.
 #[inline(always)]
 #[tactic(auto, using(crate::proofs::CodeSteps::text_code))]
-pub(crate) fn read_plain_text<C: TableColumn>(
+fn read_plain_text<C: TableColumn>(
     target: &mut C,
     row: usize,
-    start: usize,
-    ahead: &[u8],
-    size: usize,
+    cell: Cell<'_>,
     dialect: &Dialect<'_>,
 ) -> bool
     requires usable { IsUsable (row + 1) (C.target target.old) }
     requires text { keeps_text (C.target target.old) ≡ true }
     requires quotes { dialect.now.has_quotes ≡ false }
-    requires within { size ≤ length ahead.now }
     ensures fault { IsTrue result → fault_in (answer_as dialect.now
-        (option_map kind_of (C.target target.old))
-        (record { start = start; text = take size ahead.now })) ≡ None }
+        (option_map kind_of (C.target target.old)) (view_of_cell cell.entry)) ≡ None }
     ensures target { IsTrue result → C.target target.new ≡ option_map (put_read row
         (answer_as dialect.now (option_map kind_of (C.target target.old))
-        (record { start = start; text = take size ahead.now }))) (C.target target.old) }
+        (view_of_cell cell.entry))) (C.target target.old) }
     ensures kept { result ≡ false → C.target target.new ≡ C.target target.old }
 {
-    if target.may_miss() {
-        if size == dialect.missing.len() {
-            return false;
-        }
+    if may_be_mark(target, cell.text, dialect.missing) {
+        return false;
     }
     let text = CellText {
-        start,
-        size,
+        start: cell.start,
+        size: cell.text.len(),
         has_doubled_quotes: false,
     };
     target.put_text(TEXTS, row, text);
@@ -100,6 +106,63 @@ pub(crate) fn had_at_once<C: TableColumn>(target: &mut C, row: usize, held: Cell
     ensures kept { result ≡ false → C.target target.new ≡ C.target target.old }
 {
     target.read_at_once(row, held.ahead, held.text.len())
+}
+
+// Reads a cell in its column of numbers where quotes and blanks have no meaning, if it can't be the mark and the number is had at
+// once, and tells whether it did.
+#[inline(always)]
+fn read_plain_number<C: TableColumn>(
+    target: &mut C,
+    row: usize,
+    cell: Cell<'_>,
+    dialect: &Dialect<'_>,
+) -> bool
+    requires usable { IsUsable (row + 1) (C.target target.old) }
+    requires numbers { has_numbers (C.target target.old) ≡ true }
+    requires quotes { dialect.now.has_quotes ≡ false }
+    requires blanks { dialect.now.allows_blanks ≡ false }
+    requires front { cell.text.now ≡ take (length cell.text.now) cell.ahead.now }
+    ensures fault { IsTrue result → fault_in (answer_as dialect.now
+        (option_map kind_of (C.target target.old)) (view_of_cell cell.entry)) ≡ None }
+    ensures target { IsTrue result → C.target target.new ≡ option_map (put_read row
+        (answer_as dialect.now (option_map kind_of (C.target target.old))
+        (view_of_cell cell.entry))) (C.target target.old) }
+    ensures kept { result ≡ false → C.target target.new ≡ C.target target.old }
+{
+    if may_be_mark(target, cell.text, dialect.missing) {
+        return false;
+    }
+    had_at_once(target, row, cell)
+}
+
+// Reads a cell as `read_known` does where quotes have no meaning and it can't be the mark, as most cells are, and tells whether
+// it did.
+#[inline(always)]
+pub(crate) fn read_plain<C: TableColumn>(
+    target: &mut C,
+    code: u8,
+    row: usize,
+    cell: Cell<'_>,
+    dialect: &Dialect<'_>,
+) -> bool
+    requires code { IsCodeIn dialect.now code (C.target target.old) }
+    requires usable { IsUsable (row + 1) (C.target target.old) }
+    requires quotes { dialect.now.has_quotes ≡ false }
+    requires front { cell.text.now ≡ take (length cell.text.now) cell.ahead.now }
+    ensures fault { IsTrue result → fault_in (answer_as dialect.now
+        (option_map kind_of (C.target target.old)) (view_of_cell cell.entry)) ≡ None }
+    ensures target { IsTrue result → C.target target.new ≡ option_map (put_read row
+        (answer_as dialect.now (option_map kind_of (C.target target.old))
+        (view_of_cell cell.entry))) (C.target target.old) }
+    ensures kept { result ≡ false → C.target target.new ≡ C.target target.old }
+{
+    if code == TEXTS {
+        return read_plain_text(target, row, cell, dialect);
+    }
+    if code == AT_ONCE && !dialect.allows_blanks {
+        return read_plain_number(target, row, cell, dialect);
+    }
+    false
 }
 
 // Reads a cell in its column of numbers, where its quotes are in place and it holds the mark, or a number that is had at once,

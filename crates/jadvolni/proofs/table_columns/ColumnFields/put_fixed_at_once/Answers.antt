@@ -23,6 +23,7 @@ put_fixed_at_once-requires c =
     ∙ ap (λ integer. record (fixed_of column.description) { integer = integer })
     (sym (c.if-not-has_standard_integer.ensures.integer refl)) in
     record {
+      numbers = sym c.number_type.ensures ∙ c.in-Some.is;
       valid = none_is (fixed_fault c.plain-format.result) (ap fixed_fault same
           ∙ valid_fixed column (c.args.row + 1) _ (sym c.number_type.ensures ∙ c.in-Some.is) c.requires.places c.requires.usable);
       room = room_for column c.args.row c.requires.usable;
