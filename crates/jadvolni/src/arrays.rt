@@ -246,7 +246,7 @@ impl ArrayFields<'_> {
     }
 
     // Puts the number of a text's first bytes, so many, into a row's place, where there is an array and the number is had at
-    // once under the standard format. Why out of line: docs/DECISIONS.md, code.
+    // once under the standard format. Out of line, since codes read most numbers.
     #[inline(never)]
     pub(crate) fn put_at_once(&mut self, row: usize, ahead: &[u8], size: usize) -> bool
         requires room { IfSome (array_in self.old) (λ array. row < length array.numbers) }

@@ -15,8 +15,8 @@ use lexical_parse_integer::quick::value_if_short;
 // How many bytes have to follow a number that is read as words.
 const ROOM_BEHIND: usize = 17;
 
-// `put_at_once` near the end of a text, as all of a row is that a caller reads alone. Why out of line, and the format by
-// value: docs/DECISIONS.md, code.
+// `put_at_once` near the end of a text, as all of a row is that a caller reads alone. Out of line, and the format by value, so
+// that other cells keep theirs in registers.
 #[inline(never)]
 fn put_near_end<T: ParseInteger>(
     values: &mut [T],

@@ -59,8 +59,8 @@ fn cell_fault(
     quote_fault(dialect.has_quotes, is_number, cell)
 }
 
-// Reads a cell in its column of texts as `read_text` does, or tells the fault of its quotes. Why out of line: docs/DECISIONS.md,
-// code.
+// Reads a cell in its column of texts as `read_text` does, or tells the fault of its quotes. Out of line, so that numbers don't
+// pay for it.
 #[inline(never)]
 fn read_left_text<C: TableColumn>(
     target: &mut C,
@@ -192,7 +192,7 @@ pub(crate) fn end_fault(
     })
 }
 
-// Tells what is wrong with the number of a row's cells, or with its end. Why out of line: docs/DECISIONS.md, code.
+// Tells what is wrong with the number of a row's cells, or with its end. Out of line: few rows have such a fault.
 #[inline(never)]
 pub(crate) fn put_end_fault(
     row: &Row<'_>,
@@ -209,7 +209,7 @@ pub(crate) fn put_end_fault(
 }
 
 // Reads a cell as `read_cell` does, the first bytes of a text, so many, where it isn't had at once, and tells whether it is
-// right: else what is wrong is told. Why out of line: docs/DECISIONS.md, code.
+// right: else what is wrong is told. Out of line, to keep registers for the loop.
 #[inline(never)]
 pub(crate) fn read_by_column<C: TableColumn>(
     targets: &mut [C],
@@ -311,7 +311,7 @@ fn read_cells<C: TableColumn>(
 }
 
 // The numbers of the first row of a text go to its place in the targets, behind so many bytes and columns of the row that were
-// read, up to the row's fault, which is told: what is behind it. Why out of line: docs/DECISIONS.md, code.
+// read, up to the row's fault, which is told: what is behind it. Out of line, to keep registers for the loop.
 #[inline(never)]
 pub(crate) fn read_rest<'a, C: TableColumn>(
     start: usize,

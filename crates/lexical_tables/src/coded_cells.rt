@@ -53,7 +53,7 @@ pub(crate) fn read_coded_cell<C: TableColumn, const HAS_QUOTES: bool>(
     )
 }
 
-// Reads the cell of a column as `read_coded_cell` does, of more digits. Why out of line: docs/DECISIONS.md, code.
+// Reads the cell of a column as `read_coded_cell` does, of more digits. Out of line, to keep registers for the loop.
 #[inline(never)]
 fn read_long_cell<C: TableColumn>(
     targets: &mut [C],
@@ -126,7 +126,7 @@ fn read_plain_cell<C: TableColumn>(
     read_plain(&mut targets[column], code, row, cell, dialect)
 }
 
-// Reads the cell of a column as `read_known` does, the first bytes of a text, so many. Why out of line: docs/DECISIONS.md, code.
+// Reads the cell of a column as `read_known` does, the first bytes of a text, so many. Out of line, to keep registers for the loop.
 #[inline(never)]
 fn read_known_cell<C: TableColumn>(
     targets: &mut [C],

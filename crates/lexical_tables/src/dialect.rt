@@ -51,7 +51,7 @@ pub struct Dialect<'a> {
 }
 
 impl Dialect<'_> {
-    // Whether a return may stand in front of the line feed that ends a line. Why `|`: docs/DECISIONS.md, code.
+    // Whether a return may stand in front of the line feed that ends a line. By `|`, so that it is one test.
     #[inline(always)]
     pub(crate) fn takes_returns(&self) -> bool
         ensures { result ≡ takes_returns self.now }

@@ -342,7 +342,7 @@ pub(crate) fn ask_codes<C: TableColumn>(
     put_codes(dialect, targets, codes);
 }
 
-// `read_columns`, out of line, once for tables with quotes and once for others: docs/DECISIONS.md, code.
+// `read_columns`, once for tables with quotes and once for others: out of line, so that each has one loop.
 #[inline(never)]
 pub(crate) fn read_rows<C: TableColumn, const HAS_QUOTES: bool>(
     text: &[u8],

@@ -18,8 +18,8 @@ pub struct RowPlace {
     pub stop: usize,
 }
 
-// What a text has behind its first row, and behind the empty rows there, where these are skipped. Why out of line:
-// docs/DECISIONS.md, code.
+// What a text has behind its first row, and behind the empty rows there, where these are skipped. Out of line:
+// bad rows are rare.
 #[inline(never)]
 pub(crate) fn behind_row<'a>(text: &'a [u8], dialect: &Dialect<'_>) -> &'a [u8]
     requires some { 0 < length text.now }

@@ -40,7 +40,8 @@ fn marked_length(text: &[u8], separator: u8) -> usize
     split_marked(text, marks, separator).0
 }
 
-// How many they are: by a look at sixteen bytes, as most lines end among these, and then by a loop, which has more to keep. Why out of line: docs/DECISIONS.md, code.
+// How many they are: by a look at sixteen bytes, as most lines end among these, and then by a loop, which has more to keep. Out of line, since
+// most cells have none.
 #[inline(never)]
 fn quoted_length(text: &[u8], separator: u8) -> usize
     ensures value { result ≡ field_length separator (hidden separator text.now) }

@@ -85,7 +85,7 @@ fn read_row<'a, C: TableColumn, const HAS_QUOTES: bool>(
 }
 
 // Keeps what is known of a bad row that starts at a place, behind so many others, if there is room: what the text has behind
-// it. Why out of line: docs/DECISIONS.md, code.
+// it. Out of line: bad rows are rare.
 #[inline(never)]
 fn pass_bad_row<'a, B: KeptRow>(
     text: &'a [u8],
@@ -116,7 +116,7 @@ fn pass_bad_row<'a, B: KeptRow>(
     behind
 }
 
-// `read_columns_skipping`, out of line, once for tables with quotes and once for others: docs/DECISIONS.md, code.
+// `read_columns_skipping`, once for tables with quotes and once for others: out of line, so that each has one loop.
 #[inline(never)]
 fn skip_rows<C: TableColumn, B: KeptRow, const HAS_QUOTES: bool>(
     text: &[u8],
