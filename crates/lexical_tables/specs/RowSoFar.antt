@@ -95,7 +95,8 @@ GoesToEnd dialect index text from before after first column =
     → IsRowPut kinds dialect index row old after column []
 
 -- A part is the next cell of a text's first row, of which this is left: its size, what ends it, and whether it is the last.
-pub record IsPart (dialect : Dialect) (separator : ℕ) (text left : List ℕ) (part : Part) : Type 0 where
+pub record IsPart (dialect : Dialect) (separator : ℕ) (text left : List ℕ)
+    (part : Part) : Type 0 where
   pub room : part.size + 17 ≤ length left
   pub within : part.end + 17 ≤ length left
   pub cells : (start column : ℕ) → let row = first_row dialect start text in

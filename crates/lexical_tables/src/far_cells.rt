@@ -58,7 +58,8 @@ fn read_far_cell<'a, C: TableColumn>(
         (old : List (Option TargetView))
         → IsRowPut kinds dialect.now index (first_row dialect.now start text.now) old
         (map C.target targets.old) column (cells_behind dialect.now
-        (first_row dialect.now start text.now) column (length text.now - length left.entry.text.now))
+        (first_row dialect.now start text.now) column
+        (length text.now - length left.entry.text.now))
         → IsRowPut kinds dialect.now index (first_row dialect.now start text.now) old
         (map C.target targets.new) (column + 1) (cells_behind dialect.now
         (first_row dialect.now start text.now) (column + 1)
@@ -73,7 +74,8 @@ fn read_far_cell<'a, C: TableColumn>(
         (old : List (Option TargetView))
         → IsRowPut kinds dialect.now index (first_row dialect.now start text.now) old
         (map C.target targets.old) column (cells_behind dialect.now
-        (first_row dialect.now start text.now) column (length text.now - length left.entry.text.now))
+        (first_row dialect.now start text.now) column
+        (length text.now - length left.entry.text.now))
         → IsRowDone kinds dialect.now index (first_row dialect.now start text.now) old
         (map C.target targets.new) wrong.new }
     ensures behind { result.is_done ≡ true → wrong.new ≡ None → result.left.text.now
