@@ -109,8 +109,8 @@ pub(crate) fn had_at_once<C: TableColumn>(target: &mut C, row: usize, held: Cell
 }
 
 // Reads a cell in its column of numbers where quotes and blanks have no meaning, if it can't be the mark and the number is had at
-// once, and tells whether it did.
-#[inline(always)]
+// once, and tells whether it did. Out of line: inlined, it makes the loop over rows too large to be inlined.
+#[inline(never)]
 fn read_plain_number<C: TableColumn>(
     target: &mut C,
     row: usize,
