@@ -1,5 +1,6 @@
 """Tests of files: by blocks, by few bytes a call, cut short, in threads, with little memory."""
 
+import gzip
 import io
 import os
 import pathlib
@@ -9,6 +10,7 @@ import sys
 import tempfile
 import time
 import unittest
+import zipfile
 from unittest import mock
 
 import test_threads
@@ -182,6 +184,44 @@ class Files(unittest.TestCase):
                 list(iter_table(io.BytesIO(b"1,x,2\n" + b"1" * 20), COLUMNS, **given, size=9))
         self.assertEqual(read_table(io.BytesIO(b"1,x,2\n" + b"0" * 20 + b",,7"), COLUMNS,
                                     size=9)["c"].tolist(), [2, 7])
+
+    def test_a_file_that_is_no_text(self):
+        """The message of its first row says what it is, and how it is opened."""
+        text = b"1,x,2\n" * 99
+        with zipfile.ZipFile(self.path, "w") as archive:
+            archive.writestr(zipfile.ZipInfo("table"), text, zipfile.ZIP_DEFLATED)
+        gzipped, zipped = gzip.compress(text, mtime=0), self.path.read_bytes()
+        for content, hint in (
+            (gzipped, "; this file is gzip-compressed: open it with gzip.open"),
+            (zipped, "; this file is a zip archive: open what is in it with zipfile"),
+            (text.decode().encode("utf-16"), "; the text may be UTF-16, and has to be UTF-8"),
+        ):
+            self.path.write_bytes(content)
+            for more in {}, {"size": 9}, {"size": 9, "threads": 3}, {"mmap": True}:
+                for columns in COLUMNS, {"a": None, "b": None, "c": "i32"}:
+                    with self.assertRaises(ParseError) as caught:
+                        read_table(self.path, columns, **more)
+                    self.assertEqual(str(caught.exception)[-len(hint):], hint)
+        with gzip.open(io.BytesIO(gzipped)) as file:
+            self.assertEqual(len(read_table(file, COLUMNS)["c"]), 99)
+        with zipfile.ZipFile(io.BytesIO(zipped)) as archive, archive.open("table") as file:
+            self.assertEqual(len(read_table(file, COLUMNS)["c"]), 99)
+
+    def test_a_later_row_is_no_file(self):
+        """Bytes as those that begin a compressed file mean nothing behind the first row."""
+        row = b"\x1f\x8b,x,2\n"
+        for more in {}, {"threads": 2}, {"header": True}:
+            bad = []
+            parse_table(b"a,b,c\n" + row * 9, COLUMNS, on_error="skip", errors=bad, **more)
+            self.assertEqual(len(bad), 9 if more.get("header") else 10)
+            self.assertFalse([it for it in bad if "gzip" in str(it)])
+        bad = []
+        read_table(io.BytesIO(row * 9), COLUMNS, on_error="skip", errors=bad, size=20)
+        self.assertEqual(["gzip" in str(it) for it in bad], [True] + 8 * [False])
+        for text in "\x1f\udc8b", "":
+            with self.assertRaises(ParseError) as caught:
+                parse_table(text + ",\n", {"a": "u8", "b": "u8"})
+            self.assertNotIn("gzip", str(caught.exception))
 
     def test_memory_grows_with_rows(self):
         self.path.write_bytes(b'"' + b"\n" * 20_000_000 + b'",7\n' + b"x,7\n" * 2)

@@ -1,5 +1,6 @@
 """Tests of headers: columns by their names, from texts and files."""
 
+import gzip
 import io
 import pathlib
 import random
@@ -15,6 +16,7 @@ from jadvolni import Column, ParseError, iter_table, parse_table, read_table
 TEXT = b"id,what,amount\n1,rent,-80000\n2,,7\n"
 WANTED = {"amount": [-80000, 7], "id": [1, 2]}
 COLUMNS = {"amount": "i64", "id": "u8"}
+GZIP = "; this file is gzip-compressed: open it with gzip.open"
 
 
 class Names(unittest.TestCase):
@@ -237,6 +239,10 @@ class Names(unittest.TestCase):
             (b"id, amount\n", {"allows_blanks": True, "separator": ";"},
              "; separator may have to be ','"),
             ("id,amount\n".encode("utf-16"), {}, "; the text may be UTF-16, and has to be UTF-8"),
+            (gzip.compress(b"id,amount\n1,2\n", mtime=0), {}, GZIP),
+            (b"\x1f\x8b\x08\r\0", {}, GZIP),
+            (b"\x1f\x8b\x08\n", {"widths": [1, 1]}, GZIP),
+            (b"PK\x03\x04\n", {}, "; this file is a zip archive: open what is in it with zipfile"),
         ):
             with self.assertRaises(ValueError) as caught:
                 parse_table(text, COLUMNS, header=True, **given)

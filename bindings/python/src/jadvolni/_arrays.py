@@ -1,16 +1,16 @@
-"""Arrays of numbers: NumPy's where it is installed, and else those of the module array."""
+"""Arrays of numbers: NumPy's if it is installed, otherwise those of the module array."""
 
 from __future__ import annotations
 
 from array import array
 from typing import Any
 
-# So many numbers that are left over are always kept.
+# Room for this many numbers isn't given back.
 _FEW = 512
 
 
 def numpy_or_none() -> Any:
-    """The module NumPy where it is installed. It is asked for once a call: a search takes long."""
+    """The module NumPy, or None if it isn't installed. Called once a call: a search takes long."""
     try:
         import numpy
     except ImportError:
@@ -19,19 +19,19 @@ def numpy_or_none() -> Any:
 
 
 def new_array(numpy: Any, code: str, count: int) -> Any:
-    """An array for so many numbers, whatever they are."""
+    """An array of `count` numbers, which may be any."""
     return array(code, [0]) * count if numpy is None else numpy.empty(count, code)
 
 
 def zeros(numpy: Any, code: str, count: int) -> Any:
-    """An array of so many zeros."""
+    """An array of `count` zeros."""
     return array(code, [0]) * count if numpy is None else numpy.zeros(count, code)
 
 
 def grown(numpy: Any, values: Any, count: int, kept: int) -> Any:
-    """An array with room for more numbers, that has the first ones of another.
+    """An array with room for `count` numbers, which begins with the first `kept` of another.
 
-    New bytes are 0: those of bits are not all written.
+    New bytes are 0, since those of bits are not all written.
     """
     if numpy is None:
         values.extend(array(values.typecode, [0]) * (count - len(values)))
@@ -43,9 +43,9 @@ def grown(numpy: Any, values: Any, count: int, kept: int) -> Any:
 
 
 def cut(values: Any, count: int) -> Any:
-    """An array that nobody else has, cut behind its first numbers.
+    """The first `count` numbers of an array that nobody else has.
 
-    Where much is left over, it is given back. Else it isn't: that would cost more than it spares.
+    Much spare room is given back. A little isn't: that would cost more than it saves.
     """
     if isinstance(values, array):
         del values[count:]

@@ -8,8 +8,8 @@ from ._core import _arrow_array, _arrow_schema, _arrow_stream
 
 
 def _column(name: str, values: Any) -> tuple[str, str, Any, Any, Any]:
-    """What the capsules are made of: a column's name, code, numbers, bits or None, and None. Of
-    texts the numbers are where they start and the last one stops, and the last are their bytes."""
+    """What a column's capsules are made of: its name, Arrow's code, numbers, bits or None, and
+    None. Of texts, the numbers are offsets of bytes, and their bytes come last."""
     if not isinstance(name, str):
         raise TypeError(f"Arrow wants names that are str, and not {type(name).__name__}")
     if "\0" in name or name.encode("utf-8", "replace").decode() != name:
@@ -30,10 +30,10 @@ def _column(name: str, values: Any) -> tuple[str, str, Any, Any, Any]:
 
 
 class Arrow:
-    """What takes Arrow's capsules takes this: pyarrow, polars, duckdb and others.
+    """Columns for libraries that accept Arrow's capsules.
 
-    Its memory is that of the arrays, and stays as long as anyone has it. Who changes an array
-    changes what was handed out.
+    The capsules share the memory of the arrays, and keep it alive. A change to an array changes
+    what was handed out.
     """
 
     def __init__(self, columns: Mapping[str, Any], is_table: bool = True) -> None:
@@ -53,7 +53,7 @@ class Arrow:
 
 
 class ArrowTable(Arrow):
-    """The same of a table, which comes as a stream of one array too."""
+    """A table for libraries that accept Arrow's capsules, also as a stream of one array."""
 
     def __arrow_c_stream__(self, requested_schema: Optional[object] = None) -> object:
         return _arrow_stream(self._columns, self._rows)

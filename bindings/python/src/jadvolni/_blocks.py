@@ -17,14 +17,14 @@ _LARGE = 31 << 20
 
 
 class File(Protocol):
-    """What is opened with "rb", also by gzip."""
+    """A file that was opened with "rb", also one of gzip.open."""
 
     def read(self, size: int, /) -> Optional[bytes]:
-        """At most so many bytes, or all for -1."""
+        """The next bytes, at most `size` of them, or all for -1."""
 
 
 def _one_or_more(name: str, value: object) -> int:
-    """A number of things, of which there has to be one."""
+    """An argument that counts things, if it is 1 or more."""
     number = _integer(name, value)
     if number < 1:
         raise ValueError(f"{name} has to be 1 or more, and not {number}")
@@ -32,7 +32,7 @@ def _one_or_more(name: str, value: object) -> int:
 
 
 def _block(file: File, size: int) -> bytes:
-    """The next bytes of a file, none at its end."""
+    """The next bytes of a file, or none at its end."""
     if not hasattr(file, "read"):
         raise TypeError(f"file has to be one opened by \"rb\", and not {type(file).__name__}")
     block = file.read(size)
@@ -44,10 +44,10 @@ def _block(file: File, size: int) -> bytes:
 
 
 def keep_memory(size: int) -> None:
-    """Has the allocator keep about so much of what is let go, for the next arrays and blocks.
+    """Makes the allocator keep about `size` bytes of freed memory for the next arrays and blocks.
 
-    Else it gives all to the system, which clears it anew each time. It keeps what was once let go
-    at a time, up to a bound.
+    Otherwise it returns them to the system, which clears them again each time. It keeps as much as
+    was once freed at a time, up to a bound.
     """
     _keep_memory(min(size, _LARGE))
 
@@ -55,7 +55,7 @@ def keep_memory(size: int) -> None:
 def _blocks(
     file: File, size: int, progress: Optional[Callable[[int], object]]
 ) -> Iterator[bytes]:
-    """The blocks of a file, and behind them one without a byte."""
+    """The blocks of a file, and after them an empty one."""
     keep_memory(16 * size)
     while block := _block(file, size):
         yield block
@@ -81,7 +81,7 @@ def iter_column(
     """
     size = _one_or_more("size", size)
     parted = separator.encode() if isinstance(separator, str) else separator
-    _parse_part(b"", type, parted, format, 0, 0)  # (so that wrong arguments are told as ever)
+    _parse_part(b"", type, parted, format, 0, 0)  # (this refuses wrong arguments)
     left, field, start = bytearray(), 0, 0
     for block in _blocks(file, size, progress):
         stop = block.rfind(parted) + 1

@@ -1,4 +1,4 @@
-"""What is wrong with the rows of a table, and who is told."""
+"""Faults in the rows of a table, their messages, and who receives them."""
 
 from __future__ import annotations
 
@@ -11,26 +11,33 @@ from ._core import ParseError, _lines
 if TYPE_CHECKING:
     from ._core import Text
 
-# So many bytes of a cell are shown.
+# An error shows at most this many bytes of a cell.
 SHOWN = 40
+# How texts in UTF-16 and compressed files begin, and what a message says of each.
+_HINTS = {
+    b"\xff\xfe": "the text may be UTF-16, and has to be UTF-8",
+    b"\xfe\xff": "the text may be UTF-16, and has to be UTF-8",
+    b"\x1f\x8b": "this file is gzip-compressed: open it with gzip.open",
+    b"PK\x03\x04": "this file is a zip archive: open what is in it with zipfile",
+}
 
 
 class Sink(Protocol):
-    """What takes errors, as a list or a deque does."""
+    """What receives errors: a list, a deque, or anything else with `append`."""
 
     def append(self, error: ParseError, /) -> object:
-        """Takes one more."""
+        """Receives one more error."""
 
 
 # What is done with bad rows.
 OnError = Literal["raise", "skip"]
-# Who is told of bad rows.
+# Who receives the errors of bad rows.
 Errors = Union[Sink, Callable[[ParseError], object], None]
 
 
 class AtFault(NamedTuple):
-    """What is done at a fault: whether bad rows are skipped, who is told of them, and the name of
-    the file that messages begin with."""
+    """What is done at a fault: whether bad rows are skipped, who receives their errors, and the
+    file's name, with which messages begin."""
 
     skips: bool = False
     tell: Optional[Callable[[ParseError], object]] = None
@@ -38,7 +45,11 @@ class AtFault(NamedTuple):
 
 
 def at_fault(on_error: object, errors: Any, source: object = None) -> AtFault:
-    """What is done at a fault, by the arguments of a call."""
+    """What is done at a fault, by the arguments of a call.
+
+    ValueError is raised for another `on_error`, and for `errors` unless bad rows are skipped, and
+    TypeError for `errors` that can't receive any.
+    """
     if on_error not in ("raise", "skip"):
         raise ValueError(f"on_error has to be 'raise' or 'skip', and not {on_error!r}")
     skips = on_error == "skip"
@@ -52,20 +63,29 @@ def at_fault(on_error: object, errors: Any, source: object = None) -> AtFault:
 
 
 def _printable(name: str) -> str:
-    """A file's name as a message shows it, which may be any bytes."""
+    """A file's name, which may be any bytes, as a message shows it."""
     return "".join(it if it.isprintable() else _escaped(it) for it in name)
 
 
+def hint_at(text: Text) -> str:
+    """What a message adds if a text begins like a compressed file, or like one in UTF-16."""
+    if isinstance(text, str):
+        return ""
+    with memoryview(text) as view:
+        begin = view[:4].tobytes()
+    return next((f"; {it}" for mark, it in _HINTS.items() if begin.startswith(mark)), "")
+
+
 class Part:
-    """A text as a part of a file, which ends where a row does: how many bytes and lines stand
-    before it."""
+    """A text as a part of a file, and how many bytes and lines stand before it. It ends where a row
+    ends."""
 
     def __init__(self, start: int = 0, line: int = 0) -> None:
         self.start, self.line = start, line
         self._counted = self._lines = 0
 
     def lines_before(self, text: Text, place: int) -> int:
-        """How many line feeds of the text stand before a place. For a later one they count on."""
+        """How many line feeds of the text stand before a place. Later places count on from it."""
         if place < self._counted:
             self._counted = self._lines = 0
         self._lines += _lines(text, self._counted, place)
@@ -74,7 +94,8 @@ class Part:
 
 
 class Fault(NamedTuple):
-    """What is wrong with a row, as `_parse_table` tells it, and the line of its place."""
+    """What is wrong with a row, as `_parse_table` tells it, with the line of its place, and a hint
+    if it is the first row."""
 
     kind: str
     message: str
@@ -86,16 +107,17 @@ class Fault(NamedTuple):
     cell: int
     text: bytes
     line: int = 0
+    hint: str = ""
 
     def behind(self, row: int, start: int, line: int) -> Fault:
-        """The same fault, of a part behind so many rows, bytes and lines."""
+        """The same fault, counted with the rows, bytes and lines before its part."""
         return Fault(self.kind, self.message, self.row + row, self.column, self.place + start,
                      self.row_start + start, self.row_stop + start, self.cell + start, self.text,
-                     self.line + line)
+                     self.line + line, "" if start else self.hint)
 
 
 def _escaped(character: str) -> str:
-    """A character as a message shows it. Python has some that stand for bytes that aren't UTF-8."""
+    """A character as a message shows it, also one that stands for a byte that isn't UTF-8."""
     if character in '"\\':
         return "\\" + character
     if character.isprintable():
@@ -106,7 +128,7 @@ def _escaped(character: str) -> str:
 
 
 def _quoted(text: str) -> str:
-    """A text within quotes, as a message shows it."""
+    """A text as a message shows it, in quotes."""
     if not text.isprintable() or '"' in text or "\\" in text:
         text = "".join(map(_escaped, text))
     return f'"{text}"'
@@ -120,7 +142,8 @@ def _shown(text: bytes) -> str:
 
 
 def _message(fault: Fault, name: object, where: str) -> str:
-    """What is said of a fault: lines and columns count from 1, as editors do, and bytes from 0."""
+    """The message of a fault. It counts lines and columns from 1, as editors do, and bytes from 0.
+    """
     column = _quoted(name) if isinstance(name, str) else f"column {fault.column + 1}"
     if fault.kind == "TooFewCells":
         return f"{where}: {fault.message}, none for {column}"
@@ -133,10 +156,12 @@ def _message(fault: Fault, name: object, where: str) -> str:
 
 
 def error_of(fault: Fault, names: Sequence[Any], has_records: bool, source: str) -> ParseError:
-    """The exception of a fault that is counted over a whole text, as of a file of a name."""
+    """The exception for a fault that is counted over the whole text or file. Its message begins
+    with the file's name, if `source` has one."""
     name = names[fault.column] if fault.column < len(names) else None
     where = f"row {fault.row + 1}" if has_records else f"line {fault.line + 1}"
-    error = ParseError(_message(fault, name, f"{source}, {where}" if source else where))
+    told = _message(fault, name, f"{source}, {where}" if source else where)
+    error = ParseError(told + fault.hint)
     error.kind, error.place, error.line = fault.kind, fault.place, fault.line
     error.row, error.column, error.name = fault.row, fault.column, name
     error.row_start, error.row_stop = fault.row_start, fault.row_stop

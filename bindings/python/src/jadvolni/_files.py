@@ -1,4 +1,4 @@
-"""The rows of files, block by block."""
+"""The rows of a file, block by block."""
 
 from __future__ import annotations
 
@@ -11,9 +11,9 @@ from ._rows import Rows
 
 
 class Texts(NamedTuple):
-    """Whole rows of a file: the one that a block goes on with, and the others of the block.
+    """The whole rows that end in a block: the one that began before it, then the others.
 
-    The block has so many bytes, and the last one none.
+    `block` is the size of the block in bytes. It is 0 for what follows the last block.
     """
 
     parts: list[tuple[bytes | memoryview, Part]]
@@ -21,7 +21,7 @@ class Texts(NamedTuple):
 
 
 class _Rest:
-    """The row that the blocks so far end in: its bytes, and whether they end within quotes."""
+    """The unfinished row at the end of the blocks so far, and whether it ends within quotes."""
 
     def __init__(self, reader: Reader, size: int, before: Part) -> None:
         self.reader, self.size = reader, size
@@ -29,7 +29,7 @@ class _Rest:
         self.bytes, self.is_within = bytearray(), False
 
     def ends(self, block: bytes) -> tuple[int, int]:
-        """Where the first and the last row end in a block, or 0 where none does."""
+        """Where the first and the last row of a block end in it, both 0 if none does."""
         record = self.reader.record
         if not record:
             first, last, self.is_within = _row_ends(block, self.reader.has_quotes, self.is_within)
@@ -54,17 +54,17 @@ class _Rest:
         return found
 
     def _part(self, text: bytes | memoryview) -> tuple[bytes | memoryview, Part]:
-        """Rows with what stands before them."""
+        """Whole rows, with how many bytes and lines stand before them."""
         part = Part(self.start, self.line)
         self.start, self.line = self.start + len(text), self.line + self.reader.lines_in(text)
         return text, part
 
     def last(self) -> Texts:
-        """What is left behind the last block."""
+        """What is left after the last block: a row without a line feed, or nothing."""
         return Texts([(bytes(self.bytes), Part(self.start, self.line))], 0)
 
     def ask_short(self) -> None:
-        """Asks that the row isn't too long, and tells of the quote that may have made it so."""
+        """Raises ValueError if the row is too long. It names the quote that may be the reason."""
         if len(self.bytes) <= self.size:
             return
         told = f"the row at byte {self.start} has more than {self.size} bytes"
@@ -78,10 +78,10 @@ class _Rest:
 def whole_rows(
     blocks: Iterable[bytes], reader: Reader, size: int, before: Part
 ) -> Iterator[Texts]:
-    """The rows of a file's blocks, as they end there, and behind the last block what is left.
+    """The whole rows that end in each block of a file, and after the last block what is left.
 
-    Something may stand before them, as a header. A row of more than `size` bytes is a ValueError,
-    so that no more than two blocks are held.
+    `before` says what stands before them, such as a header. A row of more than `size` bytes is a
+    ValueError, so no more than two blocks are held.
     """
     rest = _Rest(reader, size, before)
     for block in blocks:
@@ -94,7 +94,7 @@ def whole_rows(
 def read_texts(
     reader: Reader, texts: Texts, most: int, row: int, kept: Optional[list[Fault]] = None
 ) -> Iterator[Rows]:
-    """The rows of texts, so many at once, behind others. The last ones may have a fault."""
+    """The rows of texts, at most `most` at once, after `row` others. The last may have a fault."""
     rows = Rows(reader, most, row, kept)
     for text, part in texts.parts:
         place = 0

@@ -8,22 +8,22 @@ from itertools import chain
 from typing import TYPE_CHECKING, Iterator, Sequence
 
 from ._core import _row_cells, _row_ends
-from ._faults import Part
+from ._faults import Part, hint_at
 from ._widths import header_cells, sizes_of
 
 if TYPE_CHECKING:
     from ._core import Text
     from ._reader import Columns, How
 
-_MARK = b"\xef\xbb\xbf"  # of the order of bytes, as some programs write it in front of UTF-8
-# A message lists so many names at most.
+_MARK = b"\xef\xbb\xbf"  # the byte order mark, which some programs write before UTF-8
+# A message lists at most this many names.
 _LISTED = 40
-# What other tables have between their cells.
+# The separators that tables usually have.
 _SEPARATORS = b",;\t|"
 
 
 def byte_of(separator: Text) -> bytes:
-    """The byte of a separator."""
+    """The one byte of a separator."""
     byte = separator.encode() if isinstance(separator, str) else bytes(memoryview(separator))
     if len(byte) != 1:
         raise ValueError(f"separator has to be one byte, and not {len(byte)}")
@@ -31,7 +31,7 @@ def byte_of(separator: Text) -> bytes:
 
 
 def _name(cell: bytes, how: How) -> str:
-    """The name that a cell has."""
+    """The name in a header's cell, without quotes and blanks if the table has them."""
     if how.allows_blanks:
         cell = cell.strip(b" \t")
     if how.has_quotes and len(cell) > 1 and cell[:1] == cell[-1:] == b'"':
@@ -41,7 +41,7 @@ def _name(cell: bytes, how: How) -> str:
 
 
 def names_of(line: bytes, how: How) -> list[str]:
-    """The names of a header."""
+    """The names in a header's line."""
     is_ended = line.endswith(b"\n")
     line = line.removesuffix(b"\n")
     if how.has_returns or (how.allows_returns and is_ended):
@@ -55,7 +55,8 @@ def names_of(line: bytes, how: How) -> list[str]:
 
 
 def with_header(how: How, header: bool) -> How:
-    """How a table is written that may have a header. Widths are kept: its cells have them too."""
+    """How a table is written, once `header` is checked. Widths become an array: the header's cells
+    need them too."""
     if not isinstance(header, bool):
         raise TypeError(f"header has to be True or False, and not {type(header).__name__}")
     if how.widths is not None and how.separator is not None:
@@ -66,8 +67,8 @@ def with_header(how: How, header: bool) -> How:
 
 
 def _behind_empty_rows(blocks: Iterator[bytes], how: How) -> tuple[Iterator[bytes], Part]:
-    """The blocks of a text behind the empty rows in front, which the table skips, and what those
-    have."""
+    """The blocks of a text after the empty rows at its front, if the table skips those, and how
+    many bytes and lines they have."""
     if not how.skips_empty_rows:
         return blocks, Part()
     end = rb"\r\n" if how.has_returns else rb"\r?\n" if how.allows_returns else rb"\n"
@@ -89,9 +90,11 @@ def _behind_empty_rows(blocks: Iterator[bytes], how: How) -> tuple[Iterator[byte
 def read_header(
     blocks: Iterator[bytes], how: How, size: int
 ) -> tuple[list[str], Iterator[bytes], Part]:
-    """The names of a header, the blocks behind it, and what stands in front of them.
+    """The names of a header, the blocks after it, and how many bytes and lines stand before them.
 
-    A line feed within quotes doesn't end it, unless they never close.
+    A line feed within quotes doesn't end the header, unless the quotes never close. ValueError is
+    raised for a header of more than `size` bytes, for a text without a byte, and for one with
+    returns and no line feed.
     """
     blocks, skipped = _behind_empty_rows(blocks, how)
     line, is_within = bytearray(), False
@@ -107,7 +110,8 @@ def read_header(
     if not line:
         raise ValueError("there is no header: the text has no byte")
     if not end and b"\r" in line[:-1] and b"\n" not in line:
-        raise ValueError("the text has returns and no line feed, which has to end each line")
+        raise ValueError("the text has returns and no line feed, which has to end each line"
+                         f"{hint_at(line)}")
     rest = memoryview(block)[len(line) - start:]
     if not end and is_within and b"\n" in line:
         end = line.index(b"\n") + 1
@@ -118,21 +122,21 @@ def read_header(
 
 
 def _quote_in(line: bytes, start: int) -> str:
-    """What a message says of the quote that a header doesn't close, which starts at a place."""
+    """What a message says of the quote that a header, which starts at byte `start`, leaves open."""
     at = start + line.rfind(b'"', 0, (line + b"\n").index(b"\n"))
     return f": the quote at byte {at} may lack the one that closes it"
 
 
 def _listed(names: Sequence[str]) -> str:
-    """Names, as a message lists them."""
+    """Names as a message lists them, the first of them if they are many."""
     more = f" and {len(names) - _LISTED} more" if len(names) > _LISTED else ""
     return ", ".join(map(repr, names[:_LISTED])) + more
 
 
 def _hint(names: Sequence[str], missing: Sequence[str], how: How) -> str:
-    """Why a header may lack names."""
-    if names[0][:2] in ("\udcff\udcfe", "\udcfe\udcff"):
-        return "; the text may be UTF-16, and has to be UTF-8"
+    """What a message says of why a header may lack names."""
+    if told := hint_at(names[0].encode("utf-8", "surrogateescape")):
+        return told
     if not how.allows_blanks and {name.strip(" \t") for name in names}.issuperset(missing):
         return "; allows_blanks may have to be True"
     separator = byte_of(b"," if how.separator is None else how.separator)
@@ -141,7 +145,7 @@ def _hint(names: Sequence[str], missing: Sequence[str], how: How) -> str:
 
 
 def ask_names(columns: Columns, names: list[str], how: How) -> None:
-    """Asks that a header has each column once."""
+    """Raises ValueError unless a header has each column, and has it once."""
     counts = Counter(names)
     missing = [name for name in columns if name not in counts]
     if missing:

@@ -14,12 +14,12 @@ if TYPE_CHECKING:
     from ._fixed import Fixed
     from ._format import Format
 
-# What the column is called, which nobody sees.
+# The column's name, which nobody sees.
 _NAME = "column"
 
 
 def _error(fault: Fault) -> ParseError:
-    """The exception of a fault, as parse_column tells it of any column."""
+    """The exception for a fault, as parse_column raises it for any column."""
     shown = f"{fault.text[:SHOWN]!r}" + (".." if len(fault.text) > SHOWN else "")
     error = ParseError(f"{fault.message} at byte {fault.place}, in field {fault.row}: {shown}")
     error.kind, error.place = fault.kind, fault.place
@@ -37,7 +37,7 @@ def read_lines(
     missing: Optional[Text] = None,
 ) -> Any:
     """The numbers of a text's lines, as parse_column describes it: it calls this."""
-    _array_code(type)  # (so that what is no type of numbers is told as ever)
+    _array_code(type)  # (this refuses what is no type of numbers)
     # A line feed ends each row, so that as a separator it parts no cells.
     how = How("\n", has_returns, False, allows_blanks, False, b"" if missing is None else missing,
               allows_returns=allows_returns)

@@ -1,4 +1,4 @@
-"""Threads that calls are handed to."""
+"""A pool of threads that make calls."""
 
 from __future__ import annotations
 
@@ -12,7 +12,7 @@ _Call = tuple["Future[Any]", Callable[..., Any], tuple[Any, ...]]
 
 
 def _answer(call: _Call) -> None:
-    """Makes a call, and puts down what it returns or raises."""
+    """Makes a call, and stores what it returns or raises in its future."""
     future, function, given = call
     try:
         future.set_result(function(*given))
@@ -21,8 +21,8 @@ def _answer(call: _Call) -> None:
 
 
 class Pool:
-    """So many threads at most. Where the system starts no more, those that there are make all
-    calls, and the caller's own where there is none. All have ended behind the block of `with`."""
+    """At most `most` threads. If the system starts no more, those that run make all calls, and if
+    none runs, the caller's own thread does. All have ended when the block of `with` is left."""
 
     def __init__(self, most: int) -> None:
         self.most = most
@@ -39,13 +39,13 @@ class Pool:
             thread.join()
 
     def _work(self) -> None:
-        """Makes the calls that are handed to the threads, until there are no more."""
+        """Makes the calls of the queue, until it says that there are no more."""
         while call := self.calls.get():
             _answer(call)
             del call  # (and with it what was answered, while the next one is waited for)
 
     def _add_thread(self) -> None:
-        """Starts one thread more, if there may be one."""
+        """Starts one more thread, unless there are as many as there may be."""
         if len(self.threads) == self.most:
             return
         thread = Thread(target=self._work)
@@ -57,7 +57,7 @@ class Pool:
             self.threads.append(thread)
 
     def submit(self, function: Callable[..., T], *given: Any) -> Future[T]:
-        """What a call will answer."""
+        """The future of a call: what it will return or raise."""
         future: Future[T] = Future()
         self._add_thread()
         if self.threads:
@@ -67,5 +67,5 @@ class Pool:
         return future
 
     def map(self, function: Callable[..., T], given: Iterable[Any]) -> list[T]:
-        """What a call answers for each of some arguments."""
+        """What the function returns for each argument, in their order."""
         return [it.result() for it in [self.submit(function, one) for one in given]]

@@ -8,7 +8,7 @@ from typing import TYPE_CHECKING, Any, Iterable, Mapping, NamedTuple, Optional, 
 
 from ._arrays import new_array, numpy_or_none, zeros
 from ._core import _array_code, _parse_table, _row_count, _text_size
-from ._faults import AtFault, Fault, Part, error_of
+from ._faults import AtFault, Fault, Part, error_of, hint_at
 from ._format import Format
 from ._header import ask_names
 from . import _texts
@@ -25,10 +25,15 @@ if TYPE_CHECKING:
 
 
 class Column(NamedTuple):
-    """What is read of a column: numbers of a type, under a format, of which some may be missing.
+    """How a column of a table is read.
 
-    A Fixed in the place of the type reads fixed-point numbers, in units of their last place, and a
-    Text reads texts. Neither goes with a format.
+    type: a type of up to 64 bits, such as "i64". A Fixed reads fixed-point numbers, in units of
+    their last place, and a Text reads texts; neither goes with a format.
+    format: the Format of the numbers, or None for plain decimal ones.
+    may_miss: whether a cell may be the table's `missing`. Numbers then become a Sparse, and texts
+    are None there.
+
+    Calls on tables raise TypeError for a Text or a Fixed with a format.
     """
 
     type: Union[NumberType, Fixed, _texts.Text]
@@ -37,7 +42,7 @@ class Column(NamedTuple):
 
 
 class How(NamedTuple):
-    """How a table is written, as parse_table describes it."""
+    """How a table is written: the arguments of parse_table."""
 
     separator: Optional[Text] = None
     has_returns: bool = False
@@ -50,13 +55,13 @@ class How(NamedTuple):
     allows_returns: bool = False
 
 
-# Where bad rows are told, so many bytes are read at once, and so many are told at most.
+# Where bad rows are reported, this many bytes are read at once, and at most this many errors kept.
 _WINDOW = 1 << 18
 _TOLD = 4096
 
 
 def ask_type(name: str, value: object, kind: Any, wanted: str) -> None:
-    """Asks that an argument is of a type."""
+    """Raises TypeError unless an argument is of a type."""
     if not isinstance(value, kind):
         raise TypeError(f"{name} has to be {wanted}, and not {type(value).__name__}")
 
@@ -68,19 +73,19 @@ def pair_of(values: Any) -> tuple[Any, Any]:
 
 
 def _data_of(values: Any) -> Optional[bytearray]:
-    """Where the bytes of a column of texts go, and None for one of numbers."""
+    """Where the bytes of a text column go, or None for a column of numbers."""
     return values.data if isinstance(values, _texts.Room) else None
 
 
 def with_pair(values: Any, numbers: Any, bits: Any) -> Any:
-    """A column as another one is, with these numbers, and bits or None. Texts keep their bytes."""
+    """A column like another, with these numbers, and bits or None. Texts keep their bytes."""
     if isinstance(values, _texts.Room):
         return values._replace(sizes=numbers, bits=bits)
     return numbers if bits is None else Sparse(numbers, bits)
 
 
 class Reader:
-    """How a table is written, and what is read of it."""
+    """How a table is written, and what is read of it, once both are checked."""
 
     def __init__(
         self, columns: Columns, how: How, at: AtFault, names: Optional[list[str]] = None
@@ -106,22 +111,22 @@ class Reader:
         self.has_quotes = bool(how.has_quotes)
         self.record = min(max(sum(sizes), 1), sys.maxsize) if how.is_records else 0
         self.at_fault = at
-        # How many bad rows are told at once, or -1 where the first ends the reading.
+        # How many bad rows are reported at once, or -1 if the first ends the reading.
         self.told = -1 if not at.skips else _TOLD if at.tell else 0
         # Whether each row is a line, and each line a row.
         self.is_by_lines = not (self.has_quotes or how.skips_empty_rows or self.record)
-        # A row has so many bytes at least, unless it is the last one: a line feed and its cells.
+        # A row has at least this many bytes, unless it is the last: its cells and a line feed.
         self.least = self.record or (sum(sizes) + 1 if sizes else max(len(self.cells), 1))
         self.numpy = numpy_or_none()
-        # How many rows a byte has, as seen last: it says how much room a text needs.
+        # How many rows there were for each byte, as seen last: it says how much room a text needs.
         self.rate = 0.0
 
     def room(self, rows: int) -> Table:
-        """Arrays for so many rows, whose numbers may be any."""
+        """Arrays with room for `rows` rows, whose numbers may be any."""
         return Table({name: self.room_of(column, rows) for name, column in self.read.items()})
 
     def room_of(self, column: Column, rows: int) -> Any:
-        """What a column of so many rows is read into."""
+        """The arrays that a column of `rows` rows is read into."""
         kind, bits = column.type, self.bits(rows) if column.may_miss else None
         if isinstance(kind, _texts.Text):
             sizes = new_array(self.numpy, "q", rows)
@@ -130,7 +135,7 @@ class Reader:
         return numbers if bits is None else Sparse(numbers, bits)
 
     def bits(self, rows: int) -> Any:
-        """The bits of so many rows, which are 0."""
+        """The bits of `rows` rows, all of them 0."""
         return zeros(self.numpy, "B", (rows + 7) // 8)
 
     def parse(
@@ -142,13 +147,13 @@ class Reader:
         rows: int,
         told: int = -1,
     ) -> tuple[int, int, int, tuple[tuple[Any, ...], ...], bool]:
-        """Reads so many rows at most of a text, from a place on, into arrays from a row on.
+        """Reads at most `rows` rows of a text, from a place on, into the arrays from row `at` on.
 
-        It answers how many right rows there were, of how many bytes with the bad ones, how many of
-        these were skipped, the faults that are told, and whether no further row stands there.
+        Returns how many good rows there were, the length of all rows in bytes, how many bad ones
+        were skipped, the faults that are reported, and whether no further row follows.
 
-        The first bad row ends the reading, and is told. Or they are skipped: none is told for 0,
-        and else so many at most, and then the next call goes on behind them.
+        With `told` -1, the first bad row is reported, and ends the reading. Otherwise bad rows are
+        skipped, and at most `told` reported; the next call goes on after them.
         """
         read = {name: (*pair_of(arrays[name]), it.type, it.format, _data_of(arrays[name]))
                 for name, it in self.read.items()}
@@ -167,19 +172,21 @@ class Reader:
             window *= 2
 
     def fault(self, told: tuple[Any, ...], text: Text, part: Part, row: int) -> Fault:
-        """A fault of a part of a text, where so many rows were read before."""
+        """A fault in a part of a text or file, of which `row` rows were read before."""
         fault = Fault(*told)
+        if fault.row_start == 0:
+            fault = fault._replace(hint=hint_at(text))
         lines = row + fault.row if self.is_by_lines else part.lines_before(text, fault.place)
         return fault.behind(row, part.start, part.line + lines)
 
     def error(self, fault: Fault, row: int = 0, start: int = 0, line: int = 0) -> ParseError:
-        """The exception of a fault, behind so many rows, bytes and lines more."""
+        """The exception for a fault, counted with the rows, bytes and lines before its part."""
         if row or start or line:
             fault = fault.behind(row, start, line + row if self.is_by_lines else line)
         return error_of(fault, self.cells, bool(self.record), self.at_fault.source)
 
     def lines_in(self, text: bytes | memoryview) -> int:
-        """How many line feeds a text has, and none where each row is a line."""
+        """How many line feeds a text has, or 0 if each row is a line: then rows are counted."""
         if self.is_by_lines or not text:
             return 0
         return _row_count(text, 0) - (text[-1:] != b"\n")

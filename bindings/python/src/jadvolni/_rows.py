@@ -1,4 +1,4 @@
-"""The rows of texts, put behind each other into arrays that grow with them."""
+"""The rows of texts, one after another, in arrays that grow with them."""
 
 from __future__ import annotations
 
@@ -15,20 +15,21 @@ from ._texts import Room, TextColumn, offsets_of
 if TYPE_CHECKING:
     from ._core import Text
 
-# So many rows tell how much room a text needs, and so many more have room in any case.
+# The first room is for this many rows, which tell how much a text needs, and any room has this many
+# rows to spare.
 _FIRST = 1024
 _FEW = 64
-# Room is made for so many times the rows at most: those to come may be longer. Room that isn't
-# written takes no memory, but in the module array, which clears it.
+# A guess is at most this many times the rows so far: those to come may be longer. Room that isn't
+# written takes no memory, except in the module array, which clears it.
 _FOLD = 1 << 14
 _FOLD_OF_ARRAY = 32
 
 
 class Rows:
-    """Rows that were read, so many at most, behind so many others.
+    """Rows that were read: at most `most`, after `row` others.
 
-    Bad rows are told as they come; or the first of them are kept, where it isn't known yet how many
-    rows stand before them all.
+    Bad rows are reported as they come. If `kept` is a list, the first of them are kept in it
+    instead: then it isn't known yet how many rows stand before them.
     """
 
     def __init__(
@@ -47,24 +48,25 @@ class Rows:
     def of(
         cls, reader: Reader, arrays: Table, most: int, kept: Optional[list[Fault]] = None
     ) -> Rows:
-        """No rows yet, with arrays that have room for so many."""
+        """No rows yet, with arrays that have room for `most` of them."""
         rows = cls(reader, most, kept=kept)
         rows.arrays, rows.room = arrays, most
         return rows
 
     @property
     def end(self) -> int:
-        """How many rows there were with those before them, right and bad."""
+        """How many rows there were, good and bad, with those before them."""
         return self.row + self.count + self.bad
 
     def is_full(self) -> bool:
-        """Whether no further row is read."""
+        """Whether there are as many rows as there may be."""
         return self.count == self.most
 
     def read(self, text: Text, part: Part, place: int = 0, behind: int = 0) -> int:
-        """Reads a text from a place on, and answers where it stopped: at its end, or full.
+        """Reads a text from a place on. Returns where it stopped: at the end, when full, or at a
+        fault.
 
-        Behind the text there are about so many bytes more.
+        About `behind` more bytes follow the text.
         """
         size = _text_size(text)
         while True:
@@ -75,7 +77,7 @@ class Rows:
                 return place
 
     def _parse(self, text: Text, place: int, part: Part) -> tuple[int, bool]:
-        """Reads what there is room for: of how many bytes it is, and whether it is all."""
+        """Reads the rows that have room. Returns their length in bytes, and whether that is all."""
         told = self.reader.told - len(self.kept) if self.kept else self.reader.told
         count, length, bad, faults, is_end = self.reader.parse(
             text, place, self.arrays, self.count, self.room - self.count, told)
@@ -87,7 +89,7 @@ class Rows:
         return length, is_end
 
     def _tell(self, faults: list[Fault]) -> None:
-        """Tells faults, or keeps them."""
+        """Reports faults, or keeps them."""
         tell = self.reader.at_fault.tell
         if not tell:
             self.fault = faults[0]
@@ -98,24 +100,24 @@ class Rows:
             self.kept += faults
 
     def raise_fault(self, row: int = 0) -> None:
-        """Raises the fault that has ended the reading, if one has, behind so many rows more."""
+        """Raises the fault that has ended the reading, if one has, counted with `row` more rows."""
         if self.fault:
             raise self.reader.error(self.fault, row)
 
     def _guess(self, size: int) -> int:
-        """How many rows so many bytes have, as those before them tell, and some more."""
+        """How many rows `size` bytes may have, going by those before them, and some to spare."""
         most = self.count * (_FOLD if self.reader.numpy else _FOLD_OF_ARRAY)
         return min(int(size * self.reader.rate * 1.125), most) + _FEW
 
     def _make_room(self, size: int, behind: int) -> None:
-        """Makes room for some rows of so many bytes, or for all, as those before them tell."""
+        """Makes room for rows of `size` bytes, for some or all, going by those before them."""
         most = min(size // self.reader.least + 1, self.most - self.count)
         wanted = min(most, self._guess(size) if self.reader.rate else _FIRST)
         if wanted > self.room - self.count or self.room == self.count < self.most:
             self.grow(max(wanted, self._guess(size + behind) if behind else 0, self.count // 2))
 
     def grow(self, rows: int) -> None:
-        """Makes room for so many rows more."""
+        """Makes room for `rows` more rows."""
         self.room = min(self.count + rows + 7 & ~7, self.most)
         if self.count:
             self.arrays = Table({name: self._grown(it) for name, it in self.arrays.items()})
@@ -123,7 +125,7 @@ class Rows:
             self.arrays = self.reader.room(self.room)
 
     def _grown(self, values: Any) -> Any:
-        """What a column was read into, with the room that there is now."""
+        """A column's arrays, grown to the room that there is now."""
         numbers, bits = pair_of(values)
         more = grown(self.reader.numpy, numbers, self.room, self.count)
         if bits is not None:
@@ -132,7 +134,7 @@ class Rows:
         return with_pair(values, more, bits)
 
     def append(self, other: Rows, behind: int) -> None:
-        """Puts the rows of another behind these. Behind them stand about so many bytes more."""
+        """Appends the rows of another. About `behind` more bytes follow them."""
         if self.room - self.count < other.count or not self.room:
             self.grow(max(other.count, self._guess(behind), self.count // 2))
         for name, values in other.arrays.items():
@@ -146,17 +148,17 @@ class Rows:
         self.count, self.bad = self.count + other.count, self.bad + other.bad
 
     def table(self) -> Table:
-        """The rows as a table, which alone has them."""
+        """The rows as a table of its own arrays."""
         if not self.room:
             self.grow(0)
         return self._counted({name: _front(it, self.count) for name, it in self.arrays.items()})
 
     def fronts(self) -> Table:
-        """The rows as a table over the arrays of a caller."""
+        """The rows as a table over the caller's arrays."""
         return self._counted({name: _view(it, self.count) for name, it in self.arrays.items()})
 
     def _counted(self, columns: dict[str, Any]) -> Table:
-        """Columns as a table, with how many bad rows were skipped."""
+        """Columns as a table, which counts the bad rows that were skipped."""
         table = Table(columns)
         if self.bad:
             table.bad_rows = self.bad
@@ -164,7 +166,7 @@ class Rows:
 
 
 def _view(values: Any, count: int) -> Any:
-    """What a caller's column was read into, up to so many rows."""
+    """The first `count` rows of a column in the caller's arrays, as views."""
     if isinstance(values, Room):
         return _front(values, count)
     if isinstance(values, tuple):
@@ -173,7 +175,7 @@ def _view(values: Any, count: int) -> Any:
 
 
 def _front(values: Any, count: int) -> Any:
-    """What a column was read into, cut behind so many rows."""
+    """The first `count` rows of a column, whose arrays are cut there."""
     numbers, bits = pair_of(values)
     numbers, bits = cut(numbers, count), None if bits is None else cut(bits, (count + 7) // 8)
     if isinstance(values, Room):

@@ -85,7 +85,7 @@ class Table(dict[str, Any]):
         return pandas.DataFrame(columns, copy=False)
 
     def _chosen(self, categories: Union[bool, Collection[str]]) -> Collection[str]:
-        """The names of the columns that become categories. ValueError tells of one of no texts."""
+        """The columns that become categories. ValueError is raised for one without texts."""
         texts = {name for name, values in self.items() if isinstance(values, TextColumn)}
         if isinstance(categories, bool):
             return texts if categories else ()

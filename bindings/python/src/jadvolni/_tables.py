@@ -1,4 +1,4 @@
-"""Tables: the rows of a text or a file, each column as an array of its own."""
+"""Tables: the rows of a text or a file, with an array for each column."""
 
 from __future__ import annotations
 
@@ -27,7 +27,7 @@ if TYPE_CHECKING:
 
 
 class _Asked(NamedTuple):
-    """What a call was asked, beside the text or the file."""
+    """The arguments of a call, without its text or file."""
 
     columns: Columns
     how: How
@@ -39,19 +39,19 @@ class _Asked(NamedTuple):
     progress: Optional[Callable[[int], object]] = None
 
     def reader(self, names: Optional[list[str]] = None) -> Reader:
-        """How the rows are read, behind a header with these names or none."""
+        """How the rows are read, after a header with these names, or without one."""
         return Reader(self.columns, self.how, self.at, names)
 
 
 def _writable_size(values: Any) -> int:
-    """How many items an array has that may be written, and -1 for what is no such array."""
+    """How many items a writable array has, or -1 if this is none."""
     with suppress(TypeError, ValueError, BufferError), memoryview(values) as view:
         return -1 if view.readonly or not view.c_contiguous else len(view)
     return -1
 
 
 def _room_of(reader: Reader, out: Mapping[str, Any], rows: int) -> Table:
-    """The caller's arrays, which have to be for so many rows, and new ones for texts."""
+    """The caller's arrays, which need room for `rows` rows, and new ones for texts."""
     ask_type("out", out, Mapping, "a dict or None")
     numbers = {name: it for name, it in reader.read.items() if not isinstance(it.type, TextKind)}
     for name, column in numbers.items():
@@ -70,7 +70,7 @@ def _room_of(reader: Reader, out: Mapping[str, Any], rows: int) -> Table:
 def _parse(
     reader: Reader, text: Text, out: Optional[Mapping[str, Any]], threads: int, before: Part
 ) -> Table:
-    """The rows of a text, before which stands a header or nothing."""
+    """The rows of a text; `before` says what stands before it, a header or nothing."""
     keep_memory(2 * _text_size(text))
     if threads == 1 and out is None:
         found = Rows(reader)
@@ -91,12 +91,12 @@ def _parse(
 
 
 def _parse_text(text: Text, asked: _Asked) -> Table:
-    """The rows of a text, with a header or none."""
+    """The rows of a text, with a header or without one."""
     threads = _one_or_more("threads", asked.threads)
     asked = asked._replace(how=with_header(asked.how, asked.header))
     if not asked.header:
         return _parse(asked.reader(), text, asked.out, threads, Part())
-    _text_size(text)  # (so that what is no text is told as ever)
+    _text_size(text)  # (this refuses what is no text)
     with memoryview(bytes_of(text) if isinstance(text, str) else text) as whole:
         names, _, before = read_header(_parts(whole), asked.how, sys.maxsize)
         with whole[before.start:] as rest:
@@ -122,36 +122,47 @@ def parse_table(
     on_error: OnError = "raise",
     errors: Errors = None,
 ) -> Table:
-    """The rows of a text, each column as an array.
+    """Parse the rows of a text, and return them as a Table: a dict with an array for each column.
 
-    `columns` names the cells of a row in their order, each with its type, a Fixed, a Text, a
-    Column, or None where it isn't read. A row has one cell more than separators, by default commas.
-    The arrays are NumPy's where it is installed, and else of the module array; or those of `out`,
-    up to the last row. Texts are a TextColumn, and have no place in `out`.
+    text: a str, or contiguous bytes. Rows end with a line feed, which the last may lack.
+    columns: a dict of the cells of a row, in their order. It maps each name to a type such as
+    "i64", a Fixed, a Text, a Column, or None to skip the cell. Numbers become NumPy arrays if NumPy
+    is installed, otherwise arrays of the module array. Texts become a TextColumn.
+    separator: the byte between cells, by default a comma. A row has one cell more than separators.
+    has_returns: each line feed follows a carriage return.
+    allows_returns: each line feed may follow a carriage return, so rows may end either way. Any
+    other carriage return belongs to its cell.
+    has_quotes: a cell may be enclosed in '"'.
+    allows_blanks: spaces and tabs may surround a number, or `missing`.
+    skips_empty_rows: a row without a byte doesn't count as a row.
+    missing: the cell that stands for a missing number or text, by default an empty one. It counts
+    only in a Column with may_miss. A column of numbers then is a Sparse.
+    widths: the width of each cell in bytes. Cells then have no separator.
+    is_records: rows have as many bytes as the widths together, at least one, and no line feed.
+    out: a dict of writable arrays with room for all rows, one for each column of numbers, and a
+    Sparse of arrays for a Column with may_miss. The table has them, up to the last row.
+    threads: how many threads read the text, each a part of it. The rows and errors are the same for
+    any number. After an error, `out` may hold anything.
+    header: the first line names the columns. `columns` then selects by name, in any order, and
+    other columns aren't read. A byte order mark may stand before the header, and so may empty rows
+    that are skipped. The header's cells have the widths too, and with allows_blanks, its names may
+    have blanks around them.
+    on_error: "raise" raises the error of the first bad row. "skip" skips bad rows, and stores the
+    others without gaps; the table's `bad_rows` counts those skipped. The place after the last row
+    in `out` may then change.
+    errors: with "skip", a list to which the ParseError of each bad row is appended, or a function
+    that is called with it, in the order of the rows. If it raises, reading ends.
 
-    header: the first line has the names of the columns. Those of `columns` choose among them, in
-    any order, and no other is read; ValueError tells of one that is missing or stands twice. A byte
-    order mark may stand before the header, and empty rows that are skipped. Widths are those of the
-    header's cells too; with allows_blanks, blanks round a name are none of it.
+    ParseError is raised for the first bad cell in reading order, or for a row with too few or too
+    many. `row`, `line` and `column` count from 0, and `name` is the column's. `place` is the offset
+    of the wrong byte, `row_start` and `row_stop` those of its row, and `text` has the cell's first
+    bytes, at most 40. Offsets count bytes from 0, over the whole text. A header is no row, but its
+    lines and bytes count. The message counts lines and columns from 1, as an editor does, and bytes
+    from 0.
 
-    has_returns: a return stands before each line feed. allows_returns: one may stand there, so that
-    each row may end either way; any other is a byte of its cell. has_quotes: a cell may stand
-    within '"'. allows_blanks: spaces and tabs may stand around a number or `missing`.
-    skips_empty_rows: a row without a byte is none. missing: what stands for a missing number where
-    a Column has may_miss, which then is a Sparse, or for a missing text: by default an empty cell.
-    widths: how many bytes each column's cells have, in the place of separators. is_records: rows
-    have as many bytes as the widths together, at least one, and no line feed behind them. threads:
-    how many read the text, in parts; at a fault `out` then may hold anything.
-
-    ParseError has the first wrong cell in reading order: its `row`, `line`, `column` and `name`,
-    its first bytes as `text`, the `place` of the wrong byte, and its row from `row_start` to
-    `row_stop`. They count from 0: a header is no row, and its lines and bytes count. The message
-    counts lines and columns from 1, as an editor does.
-
-    on_error: "skip" skips rows at fault, and stores the others one behind another, in `out` too,
-    where the place behind the last one may change; the table's `bad_rows` counts them. errors: a
-    list that the ParseError of each bad row is appended to, or a function that is called with it,
-    in the order of the rows. What it raises ends the reading.
+    ValueError is raised if the header lacks a column of `columns`, or has it twice, and if the
+    arrays of `out` don't fit. ValueError or TypeError is raised for arguments that are wrong, and
+    FormatError for a format that breaks a rule.
     """
     how = How(separator, has_returns, has_quotes, allows_blanks, skips_empty_rows, missing, widths,
               is_records, allows_returns)
@@ -160,7 +171,7 @@ def parse_table(
 
 
 def _parts(text: memoryview) -> Iterator[bytes]:
-    """The first bytes of a text, always more of them, and behind all none."""
+    """A text in parts that get larger, and after the last of them an empty one."""
     start, size = 0, 1 << 16
     while start < len(text):
         yield bytes(text[start:start + size])
@@ -190,16 +201,23 @@ def read_table(
     on_error: OnError = "raise",
     errors: Errors = None,
 ) -> Table:
-    """The rows of a file, by its path or opened by "rb", with the arguments of parse_table.
+    """Read the rows of a file, and return them as a Table.
 
-    It is read by blocks of `size` bytes, and `progress` is called as by iter_table.
+    file: a path, or a file opened with "rb", also one of gzip.open.
+    size: the file is read in blocks of this many bytes, 1 or more.
+    threads: how many threads parse the blocks. With None, a path is read by one thread for each
+    core that this process may use, and no more than the file has whole blocks. One thread then
+    reads all else: an opened file, a pipe, and a path with `mmap` or `out`. The rows and errors are
+    the same for any number.
+    progress: a function that is called after each block with its size in bytes, such as `update` of
+    a tqdm bar. If it raises, reading ends.
+    mmap: map the file at this path to memory, which saves a copy of it. Use it only if no other
+    program changes the file meanwhile: if the file is truncated, a signal ends this process.
 
-    threads: how many read the blocks. None is one, but for a path without `mmap` and `out`: then
-    one for each core that this process may use, up to as many as the file has blocks. What is read,
-    and what is told of it, is the same for any number.
-
-    mmap: a path is mapped to memory, which spares a copy of the file. Only take it where no other
-    program may write to the file: one that is cut short meanwhile ends this process by a signal.
+    Everything else is as in parse_table. ParseError counts from where reading began, and its
+    message begins with the file's name. If the first row is bad, or the header, the error says
+    whether the file seems to be compressed by gzip, a zip archive, or in UTF-16. OSError is raised
+    if the file can't be opened or read, and TypeError for `mmap` with an opened file.
     """
     how = How(separator, has_returns, has_quotes, allows_blanks, skips_empty_rows, missing, widths,
               is_records, allows_returns)
@@ -219,27 +237,27 @@ def read_table(
 
 
 def _threads_for(file: BinaryIO, size: int) -> int:
-    """How many threads read a file by blocks of a size: one for each core that this process may
-    use, up to as many as the file has blocks. One reads a file of unknown size, as a pipe, and so
-    tells bad rows as they come."""
+    """How many threads read a file in blocks of `size` bytes: one for each core that this process
+    may use, and no more than the file has whole blocks. One reads a file of unknown size, such as a
+    pipe, and so reports bad rows as they come."""
     return max(min(len(os.sched_getaffinity(0)), _size_left(file) // size), 1)
 
 
 def _name_of(file: Any) -> Any:
-    """What messages call a file, opened or by its path."""
+    """The name that messages have for a file: its path, or the name that it has if opened."""
     is_path = isinstance(file, (str, os.PathLike))
     return os.fsdecode(file) if is_path else getattr(file, "name", None)
 
 
 def _mapped(file: BinaryIO) -> ContextManager[Any]:
-    """The bytes of a file, in its own memory where it can be mapped."""
+    """The bytes of a file: mapped to memory if they can be, otherwise read."""
     with suppress(OSError, ValueError):  # (it is empty, a pipe, or of a file system without maps)
         return memory_map.mmap(file.fileno(), 0, access=memory_map.ACCESS_READ)
     return nullcontext(_block(file, -1))
 
 
 def _size_left(file: Any) -> int:
-    """How many bytes a file still has, or 0 where nobody knows."""
+    """How many bytes are left in a file, or 0 if that isn't known."""
     with suppress(AttributeError, OSError, ValueError):
         status = os.fstat(file.fileno())
         if stat.S_ISREG(status.st_mode):
@@ -250,8 +268,10 @@ def _size_left(file: Any) -> int:
 def _opened(
     file: File, asked: _Asked, size: int, threads: int, most: int
 ) -> tuple[Reader, Iterator[Texts], int]:
-    """A file as it is read: how, by blocks of a size with rows of so many bytes at most, and how
-    many bytes its header has. One thread tells the progress here, and more of them elsewhere."""
+    """How a file is read, its rows by blocks of `size` bytes, and how many bytes its header has.
+
+    A row has at most `most` bytes. `progress` is called here for one thread, for more elsewhere.
+    """
     asked = asked._replace(how=with_header(asked.how, asked.header))
     blocks = _blocks(file, size, asked.progress if threads == 1 else None)
     if not asked.header:
@@ -265,7 +285,7 @@ def _opened(
 def _told_rows(
     asked: _Asked, reader: Reader, blocks: Iterator[Texts], start: int, rows: int, threads: int
 ) -> Iterator[tuple[list[Rows], int]]:
-    """What threads read of each block, behind a header of so many bytes; the progress is told."""
+    """The rows of each block, read by threads, after a header of `start` bytes, with progress."""
     if asked.progress and start:
         asked.progress(start)
     for found, block in rows_in_threads(reader, blocks, rows, threads):
@@ -275,7 +295,7 @@ def _told_rows(
 
 
 def _read_opened(file: File, asked: _Asked) -> Table:
-    """The rows of a file that is open."""
+    """The rows of an opened file."""
     size, threads = _one_or_more("size", asked.size), _one_or_more("threads", asked.threads)
     if asked.out is not None:  # (all its rows are counted before one is written)
         return _parse_text(b"".join(_blocks(file, size, asked.progress)), asked)
@@ -317,13 +337,21 @@ def iter_table(
     on_error: OnError = "raise",
     errors: Errors = None,
 ) -> Iterator[Table]:
-    """The rows of a file of any size, by tables of at most so many rows and about `size` bytes.
+    """Read the rows of a file of any size, and yield them as Tables, block by block.
 
-    A row that a block cuts is read with the next one. ParseError counts from where reading began,
-    a `header` with its lines and bytes; the rows before it come first. A row of more than `size`
-    bytes is a ValueError, so that no more than two blocks are held, or two for each of the
-    `threads`. `progress` is called as by iter_column. Where bad rows are skipped, a table may have
-    no row, and counts those of its part of the file.
+    file: a file opened with "rb", also one of gzip.open.
+    rows: the most rows that a table has, 1 or more.
+    size: the file is read in blocks of this many bytes, 1 or more. A row that goes on in the next
+    block is read with that one.
+    threads: how many threads parse the blocks. The rows and errors are the same for any number.
+    progress: a function that is called after each block with its size in bytes, such as `update` of
+    a tqdm bar. If it raises, reading ends.
+
+    Everything else is as in parse_table. ParseError is raised after the rows before it have been
+    yielded, and counts from where reading began, a header's lines and bytes included. ValueError is
+    raised for a row of more than `size` bytes, so no more than two blocks are held, or two for each
+    thread. If bad rows are skipped, each table's `bad_rows` counts those of its part of the file,
+    and a table may have no row.
     """
     rows, size = _one_or_more("rows", rows), _one_or_more("size", size)
     threads, row = _one_or_more("threads", threads), 0

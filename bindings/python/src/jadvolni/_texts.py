@@ -129,17 +129,17 @@ class TextColumn(Sequence["Cell"]):
         return pandas.Series(self.to_numpy(), dtype=object)
 
     def categorical(self) -> pandas.Categorical:
-        """The texts as a pandas Categorical, for few that come again and again."""
+        """The texts as a pandas Categorical, for a few texts that come again and again."""
         import pandas
 
         seen: dict[Cell, Cell] = {}  # (so that equal texts are one object)
         return pandas.Categorical([seen.setdefault(it, it) for it in self])
 
     def for_arrow(self) -> tuple[str, Any, Any, bytearray]:
-        """What Arrow has: its code of the texts, which are UTF-8 or any bytes, and their arrays.
+        """Arrow's code for the texts, which are UTF-8 or any bytes, and the arrays of the column.
 
-        No text is copied but where it has another encoding. All are decoded, so that none is handed
-        out that isn't what its column says.
+        Texts are copied only from another encoding. All are decoded first, so that none is
+        handed out that isn't UTF-8 where the column says so.
         """
         if self.encoding is None:
             return "Z", self.offsets, self.bits, self.data
@@ -160,7 +160,7 @@ class TextColumn(Sequence["Cell"]):
 
 
 def offsets_of(sizes: Any) -> Any:
-    """Where texts of these sizes start behind each other, and where the last one stops."""
+    """Where texts of these sizes start, one after another, and where the last one stops."""
     if isinstance(sizes, array):
         return array("q", accumulate(sizes, initial=0))
     import numpy

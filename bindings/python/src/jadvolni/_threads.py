@@ -1,4 +1,4 @@
-"""Tables that threads read side by side, with the answers and the first fault of one thread."""
+"""Tables read by several threads, with the same rows and the same first fault as by one."""
 
 from __future__ import annotations
 
@@ -20,17 +20,17 @@ from ._texts import Room
 if TYPE_CHECKING:
     from ._core import Text
 
-# So many rows are read at once where they are read again, for their faults.
+# Where rows are read again, for their faults, this many are read at once.
 _FEW = 1024
 
 
 def raise_changed() -> NoReturn:
-    """A text is read twice where it is wrong, and answered another way."""
+    """Raises RuntimeError: a text that was read twice gave different rows."""
     raise RuntimeError("the text was changed while it was read")
 
 
 def bytes_of(text: str) -> bytes:
-    """The bytes of a str, also of one that UTF-8 hasn't, as each call takes them."""
+    """The bytes of a str as every call reads them, also where it has none in UTF-8."""
     for errors in "strict", "surrogateescape":
         with suppress(UnicodeEncodeError):
             return text.encode("utf-8", errors)
@@ -42,7 +42,7 @@ def bytes_of(text: str) -> bytes:
 def _room_behind(
     reader: Reader, arrays: Table, row: int, rows: int, held: ExitStack
 ) -> dict[str, Any]:
-    """The room of so many rows behind others. A byte of bits may be of both: those are new."""
+    """Room for `rows` rows after `row` others. Its bits are new: both may have bits in one byte."""
     room = {}
     for name, column in reader.read.items():
         numbers = held.enter_context(memoryview(pair_of(arrays[name])[0])[row:row + rows])
@@ -54,7 +54,7 @@ def _room_behind(
 
 
 def _join(values: Any, parts: list[Any], lines: list[int], counts: list[int]) -> None:
-    """Puts the rows of parts behind each other, whose numbers stand behind room for all lines."""
+    """Closes the gaps between the rows of parts, each of which has room for all its lines."""
     numbers, bits = pair_of(values)
     line = row = 0
     with memoryview(numbers) as places:
@@ -71,9 +71,9 @@ def _join(values: Any, parts: list[Any], lines: list[int], counts: list[int]) ->
 def parse_in_threads(
     reader: Reader, text: Text, arrays: Table, threads: int, before: Part
 ) -> tuple[int, int]:
-    """Reads the rows of a text in parts, side by side, and answers how many there are, and how many
+    """Reads the parts of a text in several threads. Returns how many rows there are, and how many
     bad ones were skipped."""
-    reader.parse(text, 0, arrays, 0, 0)  # (so that wrong arguments are told as ever)
+    reader.parse(text, 0, arrays, 0, 0)  # (this refuses wrong arguments)
     # The pool comes last, so that its threads have ended when the memory that they use is let go.
     with ExitStack() as held, Pool(threads) as pool:
         whole = held.enter_context(memoryview(bytes_of(text) if isinstance(text, str) else text))
@@ -102,7 +102,7 @@ def parse_in_threads(
 def _tell_parts(
     reader: Reader, texts: list[memoryview], found: list[Rows], before: Part
 ) -> None:
-    """Tells the faults of parts of a text, or raises the first one, whose rows now are counted."""
+    """Reports the faults of parts of a text, or raises the first, now that rows are counted."""
     row, start, line = 0, before.start, before.line
     for text, rows in zip(texts, found):
         if rows.fault:
@@ -113,8 +113,8 @@ def _tell_parts(
 
 
 def tell_kept(reader: Reader, texts: Texts, bad: int, kept: list[Fault], row: int) -> None:
-    """Tells the bad rows of texts, which stand behind so many rows. Where not all were kept, the
-    texts are read again."""
+    """Reports the bad rows of texts that follow `row` rows. If not all were kept, the texts are
+    read again."""
     tell = reader.at_fault.tell
     if not tell:
         return
@@ -129,7 +129,7 @@ def tell_kept(reader: Reader, texts: Texts, bad: int, kept: list[Fault], row: in
 # ---- a file, whose blocks are read one by one
 
 def _read_part(reader: Reader, texts: Texts, most: int) -> tuple[list[Rows], list[Fault]]:
-    """The rows of texts, so many at most at once, and the first bad ones that are skipped."""
+    """The rows of texts, at most `most` at once, and the first of the bad rows."""
     kept: list[Fault] = []
     return list(read_texts(reader, texts, most, 0, kept)), kept
 
@@ -137,9 +137,9 @@ def _read_part(reader: Reader, texts: Texts, most: int) -> tuple[list[Rows], lis
 def rows_in_threads(
     reader: Reader, blocks: Iterable[Texts], most: int, threads: int
 ) -> Iterator[tuple[list[Rows], int]]:
-    """The rows of each block of a file in their order, and how many bytes the block has.
+    """The rows of each block of a file, in the file's order, and the block's size in bytes.
 
-    While they are read, the next block is waited for.
+    While some threads parse rows, this one reads the next block.
     """
     row, left, failed = 0, iter(blocks), None
     waiting: deque[tuple[Texts, Future[tuple[list[Rows], list[Fault]]]]] = deque()

@@ -1,4 +1,4 @@
-"""The widths of cells that stand in a row with nothing between them."""
+"""Cells of fixed widths, with nothing between them."""
 
 from __future__ import annotations
 
@@ -7,11 +7,12 @@ from array import array
 from itertools import accumulate, pairwise
 from typing import Iterable, Sequence
 
+from ._faults import hint_at
 from ._format import _integer
 
 
 def sizes_of(widths: Iterable[int]) -> array[int]:
-    """Widths, each of which may be one."""
+    """Widths as an array, if each may be a width: from 0 to sys.maxsize."""
     if not isinstance(widths, Iterable):
         raise TypeError(f"widths has to be a list or None, and not {type(widths).__name__}")
     sizes = [_integer("a width", it) for it in widths]
@@ -22,14 +23,15 @@ def sizes_of(widths: Iterable[int]) -> array[int]:
 
 
 def ask_count(sizes: Sequence[int], count: int) -> None:
-    """Asks that there are widths for so many columns."""
+    """Raises ValueError unless there is one width for each column, and at least one."""
     if len(sizes) != count or count == 0:
         raise ValueError(f"widths have to be one for each of {count} columns, and not {len(sizes)}")
 
 
 def header_cells(line: bytes, sizes: Sequence[int]) -> list[bytes]:
-    """The cells of a header, which has to have as many bytes as they."""
+    """The cells of a header, which has to have as many bytes as the widths together."""
     stops = list(accumulate(sizes, initial=0))
     if len(line) != stops[-1]:
-        raise ValueError(f"the header has {len(line)} bytes, and the widths have {stops[-1]}")
+        raise ValueError(f"the header has {len(line)} bytes, and the widths have {stops[-1]}"
+                         f"{hint_at(line)}")
     return [line[start:stop] for start, stop in pairwise(stops)]
