@@ -93,12 +93,12 @@ extern "C" {
 
 /* The version of this header. */
 #define JADVOLNI_VERSION_MAJOR 0
-#define JADVOLNI_VERSION_MINOR 1
+#define JADVOLNI_VERSION_MINOR 2
 #define JADVOLNI_VERSION_PATCH 0
-#define JADVOLNI_VERSION_STRING "0.1.0"
+#define JADVOLNI_VERSION_STRING "0.2.0"
 
 /* The version as a number: 10000 * major + 100 * minor + patch. */
-#define JADVOLNI_VERSION 100
+#define JADVOLNI_VERSION 200
 
 /* The version of the library that the program is linked with, as such a number. */
 uint32_t jadvolni_version(void);

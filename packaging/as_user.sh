@@ -37,7 +37,7 @@ mkdir -p project
 cat > project/CMakeLists.txt << END
 cmake_minimum_required(VERSION 3.13)
 project(caller C)
-find_package(jadvolni 0.1 REQUIRED)
+find_package(jadvolni 0.2 REQUIRED)
 add_executable(caller $sources/examples/c/ten_lines.c)
 target_link_libraries(caller jadvolni::jadvolni)
 END

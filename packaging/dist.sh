@@ -31,6 +31,7 @@ grep -qx "  \"version\": \"$version\"," bindings/js/package.json ||
 number=$(sed -n 's/.*JADVOLNI_VERSION \([0-9]*\)$/\1/p' include/jadvolni.h)
 grep -qx "    $number" crates/jadvolni/src/version.rt ||
     fail "crates/jadvolni/src/version.rt has another version than jadvolni.h, $version"
+grep -q "\*\*State\*\*: version $version," README.md || fail "README.md has another version than jadvolni.h, $version"
 grep -qx "## $version" CHANGELOG.md || fail "CHANGELOG.md has no part for version $version"
 [ "${1:-}" != check ] || exit 0
 

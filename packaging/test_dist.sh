@@ -10,7 +10,10 @@ root=${ROOT:-$PWD/build/system} suite=${SUITE:-trixie}
 has() { command -v "$1" > /dev/null || { echo "skipped: there is no $1"; return 1; }; }
 [ -f dist/SHA256SUMS ] || { echo "make test-dist: there is no dist/SHA256SUMS; make dist writes it" >&2; exit 1; }
 (cd dist && sha256sum --quiet -c SHA256SUMS)
-jq -e -f packaging/sbom_check.jq dist/*.spdx.json > /dev/null || { echo "the SBOM lacks what SPDX 2.3 asks for" >&2; exit 1; }
+if has jq && ! jq -e -f packaging/sbom_check.jq dist/*.spdx.json > /dev/null; then
+    echo "the SBOM lacks what SPDX 2.3 asks for" >&2
+    exit 1
+fi
 given=$(mktemp -d)
 trap 'rm -rf "$given"' EXIT
 
@@ -37,7 +40,12 @@ fuzzed() { # NAME COMPILER SOURCE..: a target of libFuzzer, over the archive
         -artifact_prefix=build/ 2> build/fuzz.log || { tail -n 20 build/fuzz.log >&2; exit 1; }
     echo "passed: $name: $(sed -n 's/^stat::number_of_executed_units: *//p' build/fuzz.log) random inputs"
 }
-if has clang; then
+links_fuzzers() {
+    echo 'int LLVMFuzzerTestOneInput(const char *text, unsigned long size) { return size && !text; }' > "$given/none.c"
+    clang -fsanitize=fuzzer,address "$given/none.c" -o "$given/none" 2> /dev/null || { echo "skipped: clang links no libFuzzer"; return 1; }
+    rm "$given"/none*
+}
+if has clang && links_fuzzers; then
     fuzzed "C++ wrapper" clang++ -std=c++17 tests/c/fuzz_wrapper.cpp
     if has python3-config; then
         # shellcheck disable=SC2046 # (several words)

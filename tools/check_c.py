@@ -255,7 +255,7 @@ def by_cmake(place: Place, target: str) -> str:
     os.makedirs(project, exist_ok=True)
     with open(os.path.join(project, "CMakeLists.txt"), "w", encoding="utf-8") as file:
         file.write("cmake_minimum_required(VERSION 3.13)\nproject(caller C)\n"
-                   "find_package(jadvolni 0.1 REQUIRED)\n"
+                   "find_package(jadvolni 0.2 REQUIRED)\n"
                    f"add_executable(caller {TOP}/examples/c/ten_lines.c)\n"
                    f"target_link_libraries(caller jadvolni::{target})\n")
     run(["cmake", "-S", project, "-B", built,

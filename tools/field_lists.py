@@ -226,17 +226,17 @@ HEADER, OF_SYS = "include/jadvolni.h", "bindings/rust/jadvolni-sys/src/lib.rs"
 COLUMN_ROWS = "crates/jadvolni/proofs/ColumnRows.antt"
 SAME = "crates/lexical_util/proofs/Same.antt"
 ANSWERS = "crates/answer_lines/"
-OF_C, OF_RATTLE = "crates/jadvolni/src/format.rt", "crates/lexical_util/src/format.rt"
+OF_C, OF_RATTLE = "crates/jadvolni/src/format.rt", "crates/lexical_util/src/format/content.rt"
 OF_PYTHON = "bindings/python/src/jadvolni/_format.py"
 OF_RUST = "bindings/rust/jadvolni/src/format.rs"
 SLOW = "crates/rows/src/tests/formats.rt"
 FLAGS = "crates/library_tests/src/tests/util/formats.rt"
 REGIONS = [
-    Region(OF_RATTLE, "    mantissa_radix: u8,\n", "    // These stand last",
-           each(flag="    {it.name}: bool,\n")),
+    Region(OF_RATTLE, "    pub(super) mantissa_radix: u8,\n", "    // These stand last",
+           each(flag="    pub(super) {it.name}: bool,\n")),
     Region(OF_RATTLE, "ghost view = { λ a. record {\n", "    }", SAME_NAMES),
     Region(OF_RATTLE, "ghost inverse = { λ a. record {\n", "    }", SAME_NAMES),
-    Region(OF_RATTLE, "pub const STANDARD: NumberFormat = NumberFormat {\n", "}",
+    Region(OF_RATTLE, "const STANDARD_FIELDS: Fields = Fields {\n", "}",
            each(radix="    {it.name}: {it.standard},\n", punctuation="    {it.name}: None,\n",
                 flag="    {it.name}: {it.truth},\n")),
     Region("crates/lexical_util/specs/Format.antt", "pub record Format : Type 0 where\n", "\n--",
@@ -257,8 +257,8 @@ REGIONS = [
         fields, digit_separator=ord("_"), integer_internal_digit_separator=1,
         integer_consecutive_digit_separator=1, literal_prefixes=1)),
     Region(OF_C, "pub struct FormatFields {\n", "    pub nul_is_punctuation", BYTES),
-    Region(OF_C, "        NumberFormatBuilder::new()\n", "            .build_unchecked()",
-           in_builder),
+    Region(OF_C, " by 25 shifts.\n        NumberFormatBuilder::new()\n",
+           "    }\n", in_builder),
     Region("crates/jadvolni/specs/FormatFields.antt", "format_of fields = record {\n", "}\n",
            each(radix="  {it.name} = fields.{it.name};\n",
                 punctuation="  {it.name} = punctuation fields.{it.name} "

@@ -134,8 +134,7 @@ part vendor vendor
 part break-off tests/break_off.py
 part lacking tests/lacking.py
 test "$failed" = 0 || { total; exit 1; }
-mkdir -p "$copy/build/wasm"
-for to in "$copy" "$copy/build/wasm"; do cp -a --parents -t "$to" crates/*/out/rlib; done 2> /dev/null
+cp -a --parents -t "$copy" crates/*/out/rlib 2> /dev/null
 {
     in_copy libraries make -s build/libjadvolni.a
     {

@@ -52,13 +52,16 @@ build/libjadvolni.so: build/libjadvolni.a build/symbols.map
 wasm: build/jadvolni.wasm ## proves and builds the library for JavaScript, and puts it into bindings/js
 	@cp $< bindings/js
 
-# crates.txt says for which machine a crate is built, so it is built once more in a copy. Its memory can't grow.
+# crates.txt says for which machine a crate is built, so it is built once more in a copy: the first time over what proofs
+# of these sources kept here. Its memory can't grow.
 build/jadvolni.wasm: $(LIBRARY_SOURCES)
 	@mkdir -p build/wasm
 	@find build/wasm -name out -prune -o -type f -exec rm {} +
 	@cp --parents -t build/wasm tools/build.sh $(LIBRARY_SOURCES)
 	@for crate in $(LIBRARY_CRATES); do grep "^$$crate[ :]" crates.txt; done | \
 	    sed 's/^jadvolni staticlib:/jadvolni wasm64 memory=33554432:/' > build/wasm/crates.txt
+	@for kept in $(LIBRARY_CRATES:%=crates/%/out/rlib) crates/jadvolni/out/incremental; do \
+	    if [ -d $$kept ] && [ ! -d build/wasm/$$kept ]; then cp -a --parents -t build/wasm $$kept || exit 1; fi; done
 	@RT="$(RT)" build/wasm/tools/build.sh jadvolni
 	@cp build/wasm/crates/jadvolni/out/jadvolni.wasm $@
 

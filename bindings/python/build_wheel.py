@@ -78,7 +78,10 @@ def command(target: Path) -> list[str]:
     """The call of the compiler that makes the extension."""
     include = found("JADVOLNI_INCLUDE", TOP / "include")
     library = found("JADVOLNI_LIBRARY", TOP / "crates" / "jadvolni" / "out" / "libjadvolni.a")
-    headers = [f"-I{include}", f"-I{sysconfig.get_paths()['include']}"]
+    python = Path(sysconfig.get_paths()["include"])
+    if not (python / "Python.h").exists():
+        sys.exit(f"there is no {python / 'Python.h'}: install this Python's headers")
+    headers = [f"-I{include}", f"-I{python}"]
     sources = sorted(str(path) for path in (HERE / "src").glob("*.c"))
     compiler = [*(words("CC") or ["cc"]), *FLAGS, *words("CPPFLAGS"), *words("CFLAGS"), *headers]
     return [*compiler, *sources, str(library), *LINK_FLAGS, *words("LDFLAGS"), "-o", str(target)]

@@ -195,7 +195,7 @@ class CopyBinary(Case):
             self.assertEqual(psql("SELECT count(*) FROM ledger"), b"1000000\n")
 
 
-class Dask(unittest.TestCase):
+class Workers(unittest.TestCase):
     """A worker of a cluster calls read_lines, as the page says."""
 
     @unittest.skipUnless(importlib.util.find_spec("dask"), "there is no Dask")
@@ -216,6 +216,23 @@ for scheduler in ("threads", "processes"):
         command = [sys.executable, "-c", code, str(EXAMPLES)]
         run = subprocess.run(command, text=True, timeout=120, stdout=subprocess.PIPE, check=True)
         self.assertEqual(run.stdout, "[31125, 93625, 200, 218625]\n" * 2)
+
+    @unittest.skipUnless(importlib.util.find_spec("pyspark"), "there is no Spark")
+    def test_partitions_of_spark(self):
+        code = """
+from pyspark import SparkContext
+from big_file import read_lines
+lines = [str(k) for k in range(1000)]
+lines[700] = "7x"
+with SparkContext("local[2]", "big_file") as context:
+    rdd = context.parallelize(lines, 4)
+    read = rdd.mapPartitions(lambda lines: [read_lines("".join(line + "\\n" for line in lines))])
+    print([getattr(it, "row", None) or sum(it.tolist()) for it in read.collect()])
+"""
+        where = {**os.environ, "PYTHONPATH": os.pathsep.join([str(EXAMPLES), *sys.path])}
+        run = subprocess.run([sys.executable, "-c", code], text=True, timeout=300, env=where,
+                             stdout=subprocess.PIPE, check=True)
+        self.assertEqual(run.stdout, "[31125, 93625, 200, 218625]\n")
 
 
 @unittest.skipUnless(importlib.util.find_spec("pandas"), "there is no pandas")

@@ -208,6 +208,15 @@ class Build(unittest.TestCase):
                              capture_output=True, text=True)
         self.assertRegex(run.stderr, "^the binding needs Python 3.11 or later, and this is ")
 
+    def test_a_python_without_headers_is_told(self):
+        program = "import build_wheel; build_wheel.sysconfig.get_paths = " \
+                  "lambda: {'include': '/no'}; build_wheel.build_wheel('.')"
+        where = {**os.environ, "JADVOLNI_LIBRARY": __file__, "PYTHONDONTWRITEBYTECODE": "1"}
+        run = subprocess.run([sys.executable, "-c", program], cwd=BINDING, env=where, timeout=60,
+                             capture_output=True, text=True)
+        self.assertEqual((run.returncode, run.stderr),
+                         (1, "there is no /no/Python.h: install this Python's headers\n"))
+
     def test_flags_of_the_environment(self):
         with tempfile.TemporaryDirectory() as folder:
             compiler, said = pathlib.Path(folder, "compiler"), pathlib.Path(folder, "said")

@@ -229,8 +229,50 @@ class Names(unittest.TestCase):
             parse_table(text, COLUMNS, header=True, widths=7)
         with self.assertRaisesRegex(ValueError, "separator has to be None where there are widths"):
             parse_table(text, COLUMNS, ",", header=True, widths=[3, 5, 6])
-        with self.assertRaisesRegex(ValueError, "header has to be False where is_records is true"):
-            parse_table(text, COLUMNS, header=True, widths=[3, 5, 6], is_records=True)
+        for header in False, True:
+            with self.assertRaisesRegex(ValueError, "widths have to be there where is_records is"):
+                parse_table(text, COLUMNS, header=header, is_records=True)
+
+    def test_records(self):
+        text = b"id day  amount 12x    -100    3long\n5     "
+        how = {"widths": [3, 5, 6], "is_records": True, "allows_blanks": True}
+        wanted = {"amount": [-100, 5], "id": [12, 3]}
+        for mark in b"", b"\xef\xbb\xbf":
+            self.assertEqual(self.found(mark + text, COLUMNS, **how), wanted)
+            self.assertEqual(self.found(mark + text[:14], COLUMNS, **how), {"amount": [], "id": []})
+            fault = self.found(mark + text + b"  7x    ", COLUMNS, **how)
+            self.assertEqual(fault[:4], ("TooFewCells", 2, 2, len(mark + text) + 8))
+            fault = self.found(mark + text.replace(b"-100", b"-1x0"), COLUMNS, **how)
+            self.assertEqual(fault[-1], 'row 1, "amount": "-1x0  ": invalid digit at byte 2 of the'
+                                        ' cell')
+        self.assertEqual(self.found(b"\na\r71\r", {"\na\r": "u8"}, widths=[3], is_records=True,
+                                    has_returns=True)[:4], ("InvalidDigit", 0, 0, 5))
+        self.assertEqual(self.found(b"\xef12", {"\udcef": "u8"}, widths=[1], is_records=True),
+                         {"\udcef": [1, 2]})
+        self.assertEqual(self.found(b'"a"b 7 x', {"a": "u8"}, widths=[3, 1], is_records=True,
+                                    has_quotes=True, allows_blanks=True), {"a": [7]})
+
+    def test_wrong_records(self):
+        how = {"header": True, "is_records": True, "widths": [3, 5, 6]}
+        for text, told in (
+            (b"", "there is no header: the text has no byte"),
+            (b"id ", "the header has 3 bytes, and the widths have 14"),
+            (b"\xef\xbb\xbf", "the header has 0 bytes, and the widths have 14"),
+            (b"\x1f\x8b\x08", f"the header has 3 bytes, and the widths have 14{GZIP}"),
+            (b"id day  amount", "the header has no column 'id': it has 'id ', 'day  ', 'amount'; "
+                                "allows_blanks may have to be True"),
+        ):
+            for call in (lambda: parse_table(text, COLUMNS, **how),
+                         lambda: read_table(io.BytesIO(text), COLUMNS, **how),
+                         lambda: list(iter_table(io.BytesIO(text), COLUMNS, **how, size=14))):
+                with self.assertRaises(ValueError) as caught:
+                    call()
+                self.assertEqual(str(caught.exception), told)
+        with self.assertRaisesRegex(ValueError, "^the header has more than 13 bytes$"):
+            next(iter_table(io.BytesIO(b"x" * 99), COLUMNS, **how, size=13))
+        for widths in [0, 0], [2, 2**63 - 1]:
+            with self.assertRaisesRegex(ValueError, "the header has . bytes, and the widths have"):
+                parse_table(b"1234", COLUMNS, header=True, is_records=True, widths=widths)
 
     def test_why_a_name_may_lack(self):
         for text, given, hint in (

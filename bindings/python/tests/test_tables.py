@@ -241,6 +241,9 @@ class Tables(unittest.TestCase):
         ):
             with self.assertRaisesRegex((ValueError, TypeError), message):
                 next(iter_table(io.BytesIO(b"1"), {"a": "u8"}, **given))
+        for call in (read_table, lambda *it, **more: next(iter_table(*it, **more))):
+            table = call(io.BytesIO(b"1"), {"a": "u8"}, size=2**70)
+            self.assertEqual(table["a"].tolist(), [1])
         for call in (parse_table, lambda text, *it: next(iter_table(io.BytesIO(text), *it))):
             for columns in (["a", "b"], "ab", None):
                 with self.assertRaisesRegex(TypeError, "columns has to be a dict, and not "):

@@ -18,7 +18,8 @@ from contextlib import contextmanager
 from unittest import mock
 
 import jadvolni
-from jadvolni import Column, Format, ParseError, Sparse, parse_table, read_table
+from jadvolni import (Column, Format, ParseError, Sparse, iter_table, parse_table,
+                      read_table)
 
 COLUMNS = {"a": Column("u8", may_miss=True), "b": None, "c": Column("i32", None, True), "d": "i16"}
 PIECES = (b"1", b"-7", b"300", b" ", b",", b",", b"\n", b"\n", b"\r\n", b'"', b'"', b'"a,\n"')
@@ -160,6 +161,7 @@ class Threads(unittest.TestCase):
             out = {"a": array("B", [0] * 1007)}
             for size, more, threads in ((100, {}, 8), (300, {}, 6), (1500, {}, None),
                                         (100, {"threads": 1}, None), (100, {"threads": 3}, 3),
+                                        (100, {"threads": 10**30}, 1024),
                                         (100, {"out": out}, None), (100, {"mmap": True}, None)):
                 bad = []
                 with self.pools() as found:
@@ -173,6 +175,15 @@ class Threads(unittest.TestCase):
                 with self.assertRaises(ParseError) as caught:
                     read_table(path, columns, size=9)
             self.assertEqual((found, caught.exception.row, caught.exception.line), ([8], 500, 500))
+
+    def test_many_threads(self):
+        """A call has a bounded number of them, whatever it is asked for."""
+        text = b"1\n" * 2000
+        with self.pools() as found:
+            self.assertEqual(sum(parse_table(text, {"a": "u8"}, threads=10**30)["a"]), 2000)
+            tables = iter_table(io.BytesIO(text), {"a": "u8"}, threads=10**30, size=90)
+            self.assertEqual(sum(len(it["a"]) for it in tables), 2000)
+        self.assertEqual(found, [1024, 1024])
 
     def test_a_pipe_by_its_path(self):
         """One thread reads it, since nobody knows how many blocks it has."""
@@ -336,6 +347,9 @@ class Threads(unittest.TestCase):
                 with self.assertRaisesRegex(RuntimeError, "the text was changed while it was read"):
                     parse_table(b"1\n" * 20, {"a": "u8"}, threads=threads,
                                 out={"a": array("B", [0] * 20)})
+        with mock.patch("jadvolni._tables._row_count", fewer):
+            with self.assertRaisesRegex(RuntimeError, "the text was changed while it was read"):
+                parse_table(b"1\n" * 20, {"a": "u8"}, threads=3)
 
     def test_memory_is_given_back(self):
         text = b"1\n" * 20

@@ -1,5 +1,5 @@
 -- Numbers that are put into a column's array, as the values of the column.
-use Rattle.std.proofs.Common.{◌≡◌, ◌≢◌, ◌∙◌, ℕ, ◌+◌, ◌<◌, ◌≤◌, ◌==◌, Bool, true, false, cond, List, length, map, set, ℤ, pos, Result, Option, Some, None, refl, ap, ap₂, sym, subst, arith, length-set, ◌||◌, nat_lt, not}
+use Rattle.std.proofs.Common.{◌≡◌, ◌≢◌, ◌∙◌, ℕ, ◌+◌, ◌<◌, ◌≤◌, ◌==◌, Bool, true, false, cond, List, length, map, set, ℤ, pos, Result, Option, Some, None, Ok, refl, ap, ap₂, sym, subst, arith, length-set, ◌||◌, nat_lt, not}
 use Rattle.std.specs.Prelude.{IfSome, option_map}
 use Rattle.std.specs.Borrow.{MutBor}
 use Rattle.std.proofs.lemmas.Bool.{eqb-true, false_from_ne_true, false≢true}
@@ -112,6 +112,21 @@ array_named arrays I8 = record { array = _; there = refl; same_type = refl }
 array_named arrays I16 = record { array = _; there = refl; same_type = refl }
 array_named arrays I32 = record { array = _; there = refl; same_type = refl }
 array_named arrays I64 = record { array = _; there = refl; same_type = refl }
+
+-- an answer that is a number is put as that
+pub put_answered : (arrays : ArrayFields) (type : NumberType) (row : ℕ) (number : ℤ) (answer : IntegerType → Result ℤ Error)
+    → number_type arrays ≡ Some type → answer (type_named type) ≡ Ok number
+    → (option_map (put_in row number) (array_in arrays) ≡ option_map (put_answer row answer) (array_in arrays))
+    × (array_fault answer (array_in arrays) ≡ None)
+put_answered arrays type row number answer is told =
+    let it = array_named arrays type in
+    let there : array_in arrays ≡ Some it.array = ap (array_as arrays) is ∙ it.there in
+    let here : answer it.array.type ≡ Ok number = ap answer it.same_type ∙ told in (
+      ap (option_map (put_in row number)) there
+          ∙ ap (λ a. Some (record it.array { numbers = with_number row a it.array.numbers })) (sym here)
+          ∙ ap (option_map (put_answer row answer)) (sym there),
+      ap (array_fault answer) there ∙ ap error_in here,
+    )
 
 -- without a type there is none
 pub no_array : (arrays : ArrayFields) → number_type arrays ≡ None → array_in arrays ≡ None

@@ -1,4 +1,5 @@
 -- The proofs beside the functions, a file for each idea.
+pub mod ColumnAmounts
 pub mod ColumnArrays
 pub mod ColumnCodes
 pub mod ColumnNumbers

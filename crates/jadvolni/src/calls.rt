@@ -102,7 +102,7 @@ fn complete_under_any<T: FromLexicalWithOptions<Options = Options>, S: Slot<T>>(
     if !fields.are_known() {
         return UNKNOWN;
     }
-    let answer = complete_if_valid::<T>(text, &fields.format());
+    let answer = complete_if_valid::<T>(text, &fields.stored_format());
     store(answer, text.len(), value)
 }
 
@@ -139,7 +139,7 @@ pub fn complete_under<T: FromLexicalWithOptions<Options = Options>, S: Slot<T>>(
         ≡ complete_call_under fields.now T.TYPE text.now (S.number value.old) }
 {
     if fields.is_plain_decimal() {
-        if let Some(number) = value_if_short::<T>(text, &fields.format()) {
+        if let Some(number) = value_if_short::<T>(text, &fields.decimal_format()) {
             return store(Ok(number), text.len(), value);
         }
     }
@@ -162,7 +162,11 @@ fn partial_under_any<T: FromLexicalWithOptions<Options = Options>, S: Slot<T>>(
     if !fields.are_known() {
         return UNKNOWN;
     }
-    let answer = T::from_lexical_partial_with_options(text, &fields.format(), &options::STANDARD);
+    let answer = T::from_lexical_partial_with_options(
+        text,
+        &fields.stored_format(),
+        &options::STANDARD,
+    );
     give_front(answer, value)
 }
 
@@ -177,7 +181,7 @@ pub fn partial_under<T: FromLexicalWithOptions<Options = Options>, S: Slot<T>>(
         ≡ partial_call_under fields.now T.TYPE text.now (S.number value.old) }
 {
     if fields.is_plain_decimal() {
-        if let Some(found) = front_if_plain::<T>(text, &fields.format()) {
+        if let Some(found) = front_if_plain::<T>(text, &fields.decimal_format()) {
             return give_front(Ok(found), value);
         }
     }

@@ -1,6 +1,7 @@
 //! The columns of a table that have fixed-point numbers.
 
 ghost use Rattle.std.specs.Prelude.{◌≡◌, ◌≢◌, ◌+◌, ◌<◌, ◌≤◌, ◌^◌, ℕ, IsTrue, None, false, length, take, option_map};
+ghost use Rattle.lexical_tables.specs.Amounts.{HasAmounts, IsAmountText};
 ghost use Rattle.lexical_tables.specs.ByColumn.{IsUsable};
 ghost use Rattle.lexical_tables.specs.Targets.{keeps_text, text_fault};
 ghost use Rattle.jadvolni.specs.Fixed.{fixed_of};
@@ -9,6 +10,7 @@ ghost use Rattle.jadvolni.specs.Tables.{put_number, target_of};
 use crate::table_columns::ColumnFields;
 use lexical_fixed::FixedFormat;
 use lexical_parse_integer::Error;
+use lexical_tables::{is_quick, units_of_front};
 
 impl ColumnFields<'_> {
     // The description of its fixed-point numbers. A plain one isn't made field by field.
@@ -21,6 +23,50 @@ impl ColumnFields<'_> {
             return self.description.plain();
         }
         self.description.format()
+    }
+
+    // Whether its numbers are amounts that `put_amount` reads: it is asked once a call.
+    #[inline(never)]
+    pub(crate) fn has_quick_amounts(&self) -> bool
+        ensures { IsTrue result → HasAmounts (target_of self.now) }
+    {
+        if self.description.places == 0 || !self.description.has_standard_integer() {
+            return false;
+        }
+        let Some(_) = self.arrays.number_type() else {
+            return false;
+        };
+        is_quick(&self.description.plain())
+    }
+
+    // Puts the amount of a text's first bytes, so many, into a row's place, where it is had at once.
+    #[inline(always)]
+    pub(crate) fn put_amount(&mut self, row: usize, ahead: &[u8], size: usize) -> bool
+        requires amounts { HasAmounts (target_of self.old) }
+        requires usable { IsUsable (row + 1) (target_of self.old) }
+        requires room { size + 17 ≤ length ahead.now }
+        ensures bytes { IsTrue result → IsAmountText (take size ahead.now) }
+        ensures fault { IsTrue result → (start : ℕ) → text_fault (target_of self.old)
+            (record { start = start; text = take size ahead.now }) ≡ None }
+        ensures target { IsTrue result → (start : ℕ) → target_of self.new
+            ≡ option_map (put_number row (record { start = start; text = take size ahead.now }))
+            (target_of self.old) }
+        ensures kept { result ≡ false → target_of self.new ≡ target_of self.old }
+    {
+        let Some(numbers) = self.arrays.number_type() else {
+            return false;
+        };
+        let format = self.description.plain();
+        let Some((is_negative, units)) = units_of_front(
+            ahead,
+            size,
+            format.point(),
+            format.places(),
+            format.takes_fewer(),
+        ) else {
+            return false;
+        };
+        self.arrays.put_coded(numbers, row, is_negative, units)
     }
 
     // Puts the fixed-point number of a text into a row's place, or tells the text's fault.

@@ -3,13 +3,17 @@
 //! Its lists of fields are written from tools/fields.txt, by `make docs`.
 
 ghost use Rattle.std.specs.Int.{from_le_bytes, w64};
-ghost use Rattle.std.specs.Prelude.{◌≡◌, ◌↔◌, ◌&&◌, ◌∷◌, [], IsTrue, false};
+ghost use Rattle.std.specs.Prelude.{◌≡◌, ◌↔◌, ◌&&◌, ◌∷◌, [], IsTrue, None, false, true};
 ghost use Rattle.lexical_util.specs.Format.{standard};
+ghost use Rattle.lexical_util.specs.Kind.{is_punctuated, kind_of};
+ghost use Rattle.lexical_util.specs.Validity.{fault};
+ghost use Rattle.lexical_util.specs.declared.format.kind.FormatKind.TheVariants.{Decimal, Other};
 ghost use Rattle.jadvolni.specs.Effect.{format_status};
 ghost use Rattle.jadvolni.specs.FormatFields.{are_known, are_zeros, flag, format_of, has_bit, punctuation};
 
 use crate::outcome::{UNKNOWN_FIELD, status_of};
 use lexical_parse_integer::{NumberFormat, NumberFormatBuilder};
+use lexical_util::format::FormatKind;
 
 /// A format, byte by byte: `jadvolni_format` in C, where each field is described.
 ///
@@ -192,10 +196,11 @@ impl FormatFields {
         (low < 8) & (middle == 0) & (high == 0)
     }
 
-    /// Whether the format is known, decimal, and without punctuation and literals.
+    /// Whether the format is known, decimal, and without punctuation: what its kind is then, needn't be found.
     #[inline(always)]
     pub(crate) fn is_plain_decimal(&self) -> bool
-        ensures { IsTrue result → IsTrue (are_known self.now) }
+        ensures known { IsTrue result → IsTrue (are_known self.now) }
+        ensures kind { IsTrue result → kind_of (format_of self.now) ≡ Decimal }
     {
         let first = u32::from_le_bytes([
             self.mantissa_radix,
@@ -203,7 +208,7 @@ impl FormatFields {
             self.base_prefix,
             self.base_suffix,
         ]);
-        first == 10 && asks_for_no_literals(self)
+        first == 10 && asks_for_no_literals(self) && self.required_mantissa_sign == 0
     }
 
     /// Whether the radix isn't 10, and neither a separator, a prefix or a suffix nor the prefixes of literals are asked for.
@@ -252,9 +257,9 @@ impl FormatFields {
         asks_for_nothing_first(self) && asks_for_no_signs(self) && asks_for_no_literals(self)
     }
 
-    /// The format that the fields stand for, which may be invalid.
+    // A builder with these fields.
     #[inline(always)]
-    pub fn format(&self) -> NumberFormat
+    fn builder(&self) -> NumberFormatBuilder
         ensures { result ≡ format_of self.now }
     {
         let nul = self.nul_is_punctuation;
@@ -278,14 +283,147 @@ impl FormatFields {
             .digit_separator(punctuation(self.digit_separator, has_bit(nul, 1)))
             .base_prefix(punctuation(self.base_prefix, has_bit(nul, 2)))
             .base_suffix(punctuation(self.base_suffix, has_bit(nul, 4)))
-            .build_unchecked()
     }
 
-    /// What is wrong with the format.
+    // The kind of the format: few words of its fields say so, where it is decimal and has no punctuation.
     #[inline(always)]
+    fn kind(&self) -> FormatKind
+        ensures { result ≡ kind_of (format_of self.now) }
+    {
+        if self.is_plain_decimal() {
+            return FormatKind::Decimal;
+        }
+        self.builder().build_unchecked().kind()
+    }
+
+    // Whether the format is surely a valid one with punctuation, as those of most languages are: decimal, with the separator
+    // `_`, or with literals or a required sign alone; or hexadecimal with `0x`. The first four bytes are asked as a word.
+    #[inline(always)]
+    #[tactic(auto, using(lexical_util::proofs::FormatKinds::other_kind))]
+    fn is_surely_other(&self) -> bool
+        ensures { IsTrue result → kind_of (format_of self.now) ≡ Other }
+    {
+        if self.nul_is_punctuation != 0 {
+            return false;
+        }
+        let first = u32::from_le_bytes([
+            self.mantissa_radix,
+            self.digit_separator,
+            self.base_prefix,
+            self.base_suffix,
+        ]);
+        if first == 0x5F0A {
+            return true;
+        }
+        if first == 10 {
+            return self.literal_prefixes != 0
+                || self.literal_octal_zero != 0
+                || self.required_mantissa_sign != 0;
+        }
+        self.mantissa_radix == 16
+            && self.base_prefix == b'x'
+            && self.digit_separator == 0
+            && self.base_suffix == 0
+            && self.literal_prefixes == 0
+            && self.literal_octal_zero == 0
+    }
+
+    // The same kind of any format: by its rules. A function of its own, so that the one before it needs no stack.
+    #[inline(never)]
+    fn any_kind(&self) -> FormatKind
+        ensures { result ≡ kind_of (format_of self.now) }
+    {
+        self.builder().build_unchecked().kind()
+    }
+
+    // The same kind, out of line: it is found before the format is made, which needs the registers.
+    #[inline(never)]
+    fn kind_first(&self) -> FormatKind
+        ensures { result ≡ kind_of (format_of self.now) }
+    {
+        if self.is_surely_other() {
+            return FormatKind::Other;
+        }
+        if self.is_plain_decimal() {
+            return FormatKind::Decimal;
+        }
+        self.any_kind()
+    }
+
+    /// The format that the fields stand for, which may be invalid, for a function of which there are many copies, or that keeps
+    /// much in registers: its kind is found out of line.
+    #[inline(always)]
+    pub(crate) fn stored_format(&self) -> NumberFormat
+        ensures { result ≡ format_of self.now }
+    {
+        self.builder().build_of_kind(self.kind_first())
+    }
+
+    /// The format that the fields stand for, which may be invalid.
+    #[inline(always)]
+    pub fn format(&self) -> NumberFormat
+        ensures { result ≡ format_of self.now }
+    {
+        self.builder().build_of_kind(self.kind())
+    }
+
+    // Whether punctuation is set, but for a byte 0, or a sign is required.
+    #[inline(always)]
+    fn is_punctuated(&self) -> bool
+        ensures set { IsTrue result → is_punctuated (format_of self.now) ≡ true }
+        ensures none { result ≡ false → self.now.nul_is_punctuation ≡ 0
+            → is_punctuated (format_of self.now) ≡ false }
+    {
+        self.digit_separator != 0
+            || self.base_prefix != 0
+            || self.base_suffix != 0
+            || self.literal_prefixes != 0
+            || self.literal_octal_zero != 0
+            || self.required_mantissa_sign != 0
+    }
+
+    // The kind of a valid format: where punctuation is set, nothing else decides it.
+    #[inline(always)]
+    #[tactic(auto, using(lexical_util::proofs::FormatKinds::other_kind, lexical_util::proofs::FormatKinds::decimal_kind))]
+    fn valid_kind(&self) -> FormatKind
+        requires { fault (format_of self.now) ≡ None }
+        ensures { result ≡ kind_of (format_of self.now) }
+    {
+        if self.is_punctuated() {
+            return FormatKind::Other;
+        }
+        if self.nul_is_punctuation == 0 && self.mantissa_radix == 10 {
+            return FormatKind::Decimal;
+        }
+        self.kind_first()
+    }
+
+    /// The format of fields for which it is valid: its kind is found by fewer tests, as for each cell of a column.
+    #[inline(always)]
+    pub(crate) fn valid_format(&self) -> NumberFormat
+        requires { fault (format_of self.now) ≡ None }
+        ensures { result ≡ format_of self.now }
+    {
+        self.builder().build_of_kind(self.valid_kind())
+    }
+
+    /// The same of fields that [`FormatFields::is_plain_decimal`] takes.
+    #[inline(always)]
+    pub(crate) fn decimal_format(&self) -> NumberFormat
+        requires { kind_of (format_of self.now) ≡ Decimal }
+        ensures { result ≡ format_of self.now }
+    {
+        self.builder().build_of_kind(FormatKind::Decimal)
+    }
+
+    /// What is wrong with the format. Out of line, since its rules need a stack, and its two callers don't.
+    #[inline(never)]
     pub fn status(&self) -> u32
         ensures { result ≡ format_status self.now }
     {
+        if self.is_plain_decimal() {
+            return 0;
+        }
         if !self.are_known() {
             return UNKNOWN_FIELD;
         }

@@ -89,7 +89,7 @@ impl ColumnFields<'_> {
         let Some(_) = self.arrays.number_type() else {
             return None;
         };
-        let format = self.description.integer.format();
+        let format = self.description.integer.valid_format();
         self.arrays
             .put_cell(row, start, text, ahead, &format, options)
     }

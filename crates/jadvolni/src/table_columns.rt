@@ -317,7 +317,25 @@ impl TableColumn for ColumnFields<'_> {
         if self.is_standard() {
             return code;
         }
-        under_format(code, &self.description.integer.format())
+        let fields = &self.description.integer;
+        if !fields.is_plain_decimal() {
+            return UNKNOWN;
+        }
+        under_format(code, &fields.decimal_format())
+    }
+
+    #[inline(always)]
+    fn has_amounts(&self) -> bool {
+        self.has_quick_amounts()
+    }
+
+    #[inline(always)]
+    fn read_amount(&mut self, row: usize, ahead: &[u8], size: usize) -> bool {
+        if !self.put_amount(row, ahead, size) {
+            return false;
+        }
+        self.put_presence(row, true);
+        true
     }
 
     #[inline(always)]

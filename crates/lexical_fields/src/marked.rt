@@ -129,9 +129,10 @@ pub fn value_of_front<T: ParseInteger>(text: &[u8], size: usize, format: &Number
     value_with_room::<T>(text, size, b' ', format)
 }
 
-// The number of up to twelve digits with room behind them.
+/// The number that a text's first bytes write, so many, where they are up to twelve decimal digits. `None` says nothing of
+/// them. The text has to have sixteen bytes.
 #[inline(always)]
-fn number_to_12(digits: &[u8], count: usize) -> Option<u64>
+pub fn number_to_12(digits: &[u8], count: usize) -> Option<u64>
     requires few { count ≤ 12 }
     requires room { 16 ≤ length digits.now }
     ensures writes { IfSome result (λ number. WritesDecimal 0 (take count digits.now) number) }

@@ -1,5 +1,6 @@
--- The lemmas on fixed-point numbers.
-mod Digits
+-- The lemmas on fixed-point numbers. Some may be cited by the crates above.
+mod DecimalParts
+pub mod Digits
 mod FaultPlaces
 mod FixedRows
 mod Fractions
@@ -11,8 +12,8 @@ mod Places
 mod QuickDigits
 mod QuickFronts
 mod QuickParts
-mod ShortNumbers
+pub mod ShortNumbers
 mod Units
-mod Valid
+pub mod Valid
 mod WholeByFront
 mod WithoutPlaces

@@ -4,7 +4,7 @@ ghost use Rattle.std.specs.Prelude.{◌≡◌, ◌↔◌, IsTrue, None, is_some}
 ghost use Rattle.lexical_fixed.specs.Validity.{fixed_fault, has_affix, is_unfit_point};
 
 use crate::error::FixedFormatError;
-use lexical_util::format::{NumberFormat, STANDARD};
+use lexical_util::format::{FormatKind, NumberFormat, STANDARD};
 use std::marker::Model;
 
 /// What a text of a fixed-point number may look like: an integer part, and behind a point digits alone.
@@ -100,19 +100,18 @@ impl FixedFormat {
         }
     }
 
-    /// Whether the description is valid and its integer part has no separator, as most have none: by few tests.
+    /// Whether the description is valid and its integer part has neither a separator nor a required sign, as most have
+    /// none: by few tests.
     ///
     /// `false` says nothing of the description.
     #[inline(always)]
     pub fn is_plain(&self) -> bool
         ensures { IsTrue result → fixed_fault self.now ≡ None }
     {
-        let format = &self.integer;
-        format.radix() == 10
-            && format.digit_separator().is_none()
-            && !has_affix(format)
-            && !is_unfit_point(format, self.point)
-            && self.places <= 38
+        match self.integer.kind() {
+            FormatKind::Decimal => !is_unfit_point(&self.integer, self.point) && self.places <= 38,
+            _ => false,
+        }
     }
 
     /// What the integer part may look like.

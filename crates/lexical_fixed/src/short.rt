@@ -67,6 +67,10 @@ fn value_from_9<T: Integer>(digits: &[u8], place: usize, is_negative: bool) -> O
     ensures { IfSome result
         (λ value. IsValueWithout T.TYPE is_negative place digits.now (T.number value)) }
 {
+    // Ten digits from 5 on are too many for 32 bits: so a fault is known before its digits are read.
+    if T::BITS <= 32 && digits.len() > 10 && digits[0] > b'4' {
+        return None;
+    }
     let Some((high, low)) = numbers_without(digits, place) else {
         return None;
     };

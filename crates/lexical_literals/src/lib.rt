@@ -37,6 +37,7 @@ use lexical_parse_integer::laws::grammar::{front_end, wider_types};
 use lexical_parse_integer::parse::ParseInteger;
 use lexical_parse_integer::{Error, NumberFormat, NumberFormatBuilder, Result, options};
 use lexical_util::digit::char_is_digit;
+use lexical_util::format::FormatKind;
 pub use literal::{Literal, literal_in_front};
 use std::marker::Model;
 pub use suffixes::{IntegerKind, Suffix, SuffixEntry};
@@ -84,7 +85,7 @@ pub fn literal_format() -> NumberFormat
         .integer_internal_digit_separator(true)
         .integer_consecutive_digit_separator(true)
         .literal_prefixes(true)
-        .build_unchecked()
+        .build_of_kind(FormatKind::Other)
 }
 
 // The number that a text begins with, or its fault, and how many bytes that has.
@@ -230,10 +231,9 @@ impl<'a> Tokens<'a> {
     {
         // The law by which no number is empty, and each ends within the source.
         front_end();
-        let format = literal_format();
         Tokens {
-            decimal: is_decimal(&format),
-            format,
+            decimal: true,
+            format: literal_format(),
             rest: source,
             place: 0,
         }

@@ -5,4 +5,5 @@ pub mod DigitsByTable
 pub mod DigitsInFront
 pub mod FieldsInFront
 pub mod ForbiddenZeros
+pub mod KindsOfFormats
 pub mod LeavingNumbers

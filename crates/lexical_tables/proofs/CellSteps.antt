@@ -3,6 +3,7 @@ use Rattle.std.proofs.Common.{◌≡◌, ◌∙◌, ℕ, zero, suc, ◌<◌, ◌
 use Rattle.std.specs.Prelude.{is_some, option_map}
 use Rattle.std.proofs.lemmas.List.{length-map, map-set}
 use Rattle.lexical_fields.specs.Fields.{FieldView}
+use Rattle.lexical_tables.specs.Amounts.{IsAmountsIn}
 use Rattle.lexical_tables.specs.ByColumn.{AreUsable, IsUsable, answer_at, fault_in, kind_of, kinds_of, put_read, put_read_at}
 use Rattle.lexical_tables.specs.Cells.{Kind, answer_as, quote_fault, unless}
 use Rattle.lexical_tables.specs.Codes.{AreCodes, IsCodeIn}
@@ -89,6 +90,10 @@ module _ {C : Type 0} (target_of : C → Option TargetView) (d : Dialect) (targe
   pub known_told : (code : ℕ) → IsCodeIn d code (get_or targets_seen column None)
       → IsCodeIn d code (target_of (get_or targets column e))
   known_told code is = subst (IsCodeIn d code) (default_is targets_seen column (target_of e) low_seen ∙ target_is) is
+
+  -- that has amounts
+  pub amounts_told : IsAmountsIn d (get_or targets_seen column None) → IsAmountsIn d (target_of (get_or targets column e))
+  amounts_told is = subst (IsAmountsIn d) (default_is targets_seen column (target_of e) low_seen ∙ target_is) is
 
   -- that isn't read
   pub unread_fault : is_some (target_of (get_or targets column e)) ≡ false

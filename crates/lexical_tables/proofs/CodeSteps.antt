@@ -1,12 +1,13 @@
 -- The codes of columns stay right while numbers are put.
-use Rattle.std.proofs.Common.{◌≡◌, ◌∙◌, ℕ, zero, suc, ◌<◌, ◌≤◌, Bool, false, true, not, List, [], ◌∷◌, length, get_or, Result, Option, Some, None, refl, ap, sym, subst, arith}
+use Rattle.std.proofs.Common.{◌≡◌, ◌∙◌, ℕ, zero, suc, ◌<◌, ◌≤◌, Bool, false, true, not, List, [], ◌∷◌, length, get_or, Result, Option, Some, None, refl, ap, sym, subst, arith, ◌⊎◌, inl, inr}
 use Rattle.std.proofs.lemmas.List.{length-map}
 use Rattle.std.specs.Prelude.{is_some, option_map, slice_index}
 use Rattle.lexical_tables.specs.Readings.{FixedPoints, Integers, Reading, Texts, Value, keeps_texts}
 use Rattle.lexical_tables.specs.ByColumn.{kind_of, kinds_of, put_read_at, put_row}
-use Rattle.lexical_tables.specs.Cells.{Kind}
+use Rattle.lexical_tables.specs.Amounts.{AreAmounts, HasAmounts, IsAmountsIn}
+use Rattle.lexical_tables.specs.Cells.{Kind, ends_in_digit}
 use Rattle.lexical_tables.specs.Codes.{AreCoded, AreCodes, IsCode, IsCodeIn, IsReadAs, has_coded_bits}
-use Rattle.lexical_tables.specs.Targets.{TargetView, has_numbers, keeps_text}
+use Rattle.lexical_tables.specs.Targets.{TargetView, has_bits, has_numbers, keeps_text}
 use Rattle.lexical_tables.specs.declared.answers.CellFault.{CellFault}
 use Rattle.lexical_tables.specs.declared.dialect.Dialect.{Dialect}
 use Rattle.lexical_tables.proofs.PutSteps.{kinds_put, kinds_put_row}
@@ -68,6 +69,103 @@ asked_code dialect code target is read = record {
   };
   no_blanks = λ more. absurd (omega (arith, more));
   no_number = λ more. absurd (omega (arith, more));
+  amounts = λ four. absurd (omega (arith, four));
+}
+
+-- a code of no type, but for that of amounts, says what the column does
+pub low_code : (dialect : Dialect) (code : ℕ) (target : Option TargetView) → IsCode code target → code ≤ 3
+    → IsCodeIn dialect code target
+low_code dialect code target is low = record {
+  column = is;
+  no_blanks = λ more. absurd (omega (arith, low, more));
+  no_number = λ more. absurd (omega (arith, low, more));
+  amounts = λ four. absurd (omega (arith, low, four));
+}
+
+-- that nothing is known is always right
+pub none_code : (dialect : Dialect) (target : Option TargetView) → IsCodeIn dialect 0 target
+none_code dialect target = record {
+  column = record {
+    unread = λ one. absurd (omega (arith, one));
+    texts = λ two. absurd (omega (arith, two));
+    numbers = λ three. absurd (omega (arith, three));
+    read = λ more. absurd (omega (arith, more));
+  };
+  no_blanks = λ more. absurd (omega (arith, more));
+  no_number = λ more. absurd (omega (arith, more));
+  amounts = λ four. absurd (omega (arith, four));
+}
+
+-- the code of a type
+pub type_code : (dialect : Dialect) (code : ℕ) (target : Option TargetView) → IsCode code target → 8 ≤ code
+    → dialect.allows_blanks ≡ false → (has_coded_bits code ≡ true → ends_in_digit dialect.missing.now ≡ false)
+    → IsCodeIn dialect code target
+type_code dialect code target is type blanks mark = record {
+  column = is;
+  no_blanks = λ more. blanks;
+  no_number = λ more. mark;
+  amounts = λ four. absurd (omega (arith, type, four));
+}
+
+-- the code of amounts
+pub amounts_code : (dialect : Dialect) (target : Option TargetView) → HasAmounts target → dialect.allows_blanks ≡ false
+    → (has_bits target ≡ true → ends_in_digit dialect.missing.now ≡ false) → IsCodeIn dialect 4 target
+amounts_code dialect target has blanks mark = record {
+  column = record {
+    unread = λ one. absurd (omega (arith, one));
+    texts = λ two. absurd (omega (arith, two));
+    numbers = λ three. absurd (omega (arith, three));
+    read = λ more. absurd (omega (arith, more));
+  };
+  no_blanks = λ more. absurd (omega (arith, more));
+  no_number = λ more. absurd (omega (arith, more));
+  amounts = λ four. record { column = has; no_blanks = blanks; no_number = mark };
+}
+
+amounts_numbers : (reading : Reading) → AreAmounts reading → not (keeps_texts reading) ≡ true
+amounts_numbers (Integers format type) are = absurd are
+amounts_numbers (FixedPoints fixed type) are = refl
+amounts_numbers Texts are = absurd are
+
+amounts_have : (target : Option TargetView) → HasAmounts target → has_numbers target ≡ true
+amounts_have None has = absurd has
+amounts_have (Some target) has = amounts_numbers target.reading has
+
+-- a column of either code has numbers
+pub numbers_said : (dialect : Dialect) (code : ℕ) (target : Option TargetView) → IsCodeIn dialect code target
+    → (code ≡ 3) ⊎ (code ≡ 4) → has_numbers target ≡ true
+numbers_said dialect code target is (inl three) = is.column.numbers three
+numbers_said dialect code target is (inr four) = amounts_have target (is.amounts four).column
+
+-- amounts of a kind
+abbrev KindAmounts : Option Kind → Type 0
+KindAmounts None = ⊥
+KindAmounts (Some kind) = AreAmounts kind.reading
+
+to_amounts : (target : Option TargetView) → HasAmounts target → KindAmounts (option_map kind_of target)
+to_amounts None has = has
+to_amounts (Some target) has = has
+
+from_amounts : (target : Option TargetView) → KindAmounts (option_map kind_of target) → HasAmounts target
+from_amounts None has = has
+from_amounts (Some target) has = has
+
+-- whether a value of a kind may be missing
+abbrev may_miss : Option Kind → Bool
+may_miss None = false
+may_miss (Some kind) = kind.may_miss
+
+misses : (target : Option TargetView) → may_miss (option_map kind_of target) ≡ has_bits target
+misses None = refl
+misses (Some target) = refl
+
+-- they stay amounts
+same_amounts : (dialect : Dialect) (old new : Option TargetView) → option_map kind_of new ≡ option_map kind_of old
+    → IsAmountsIn dialect old → IsAmountsIn dialect new
+same_amounts dialect old new same is = record {
+  column = from_amounts new (subst KindAmounts (sym same) (to_amounts old is.column));
+  no_blanks = is.no_blanks;
+  no_number = λ has. is.no_number (sym (misses old) ∙ ap may_miss (sym same) ∙ misses new ∙ has);
 }
 
 -- so the code stays right where the column is read as before
@@ -82,6 +180,7 @@ same_code dialect code old new same is = record {
   };
   no_blanks = is.no_blanks;
   no_number = is.no_number;
+  amounts = λ four. same_amounts dialect old new same (is.amounts four);
 }
 
 -- what the column at a place is read as
@@ -131,17 +230,7 @@ code_at dialect codes targets k d are coded low =
 pub unknown_codes : (dialect : Dialect) (codes : List ℕ) (targets : List (Option TargetView))
     → ((k : ℕ) → k < length codes → slice_index codes k ≡ 0) → AreCodes dialect codes targets
 unknown_codes dialect codes targets unknown k coded low =
-    let none = unknown k coded in
-    record {
-      column = record {
-        unread = λ is. absurd (omega (arith, none, is));
-        texts = λ is. absurd (omega (arith, none, is));
-        numbers = λ is. absurd (omega (arith, none, is));
-        read = λ read. absurd (omega (arith, none, read));
-      };
-      no_blanks = λ read. absurd (omega (arith, none, read));
-      no_number = λ read. absurd (omega (arith, none, read));
-    }
+    subst (λ code. IsCodeIn dialect code (get_or targets k None)) (sym (unknown k coded)) (none_code dialect (get_or targets k None))
 
 -- a column of texts has their code
 pub text_code : (target : Option TargetView) → keeps_text target ≡ true → IsCode 2 target

@@ -15,7 +15,7 @@ use Rattle.lexical_tables.specs.declared.answers.CellFault.TheVariants.{Misplace
 use Rattle.lexical_tables.specs.Readings.{FixedPoints, Integers, IsValid, Number, Reading, Texts}
 use Rattle.lexical_tables.specs.Targets.{TargetView}
 use Rattle.lexical_tables.specs.declared.dialect.Dialect.{Dialect}
-use Rattle.lexical_tables.proofs.PlainCells.{integers, plain_answer, quoted_answer}
+use Rattle.lexical_tables.proofs.numerals.PlainCells.{integers, plain_answer, quoted_answer}
 use Rattle.lexical_tables.proofs.QuotesUnread.{round_fine}
 use Rattle.lexical_tables.proofs.Unquoted.{unquoted_fault}
 

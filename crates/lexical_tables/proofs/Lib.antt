@@ -23,7 +23,6 @@ pub mod OutsideSteps
 pub mod Parities
 pub mod PassSteps
 pub mod Passed
-pub mod PlainCells
 pub mod PutSteps
 pub mod QuoteSteps
 pub mod QuotesUnread
@@ -33,8 +32,8 @@ pub mod RowCells
 pub mod RowSteps
 pub mod RowsInParts
 pub mod SeenBytes
+pub mod numerals
 pub mod skipped
 pub mod Unquoted
 pub mod WholeRows
 pub mod worked
-mod ZeroRule

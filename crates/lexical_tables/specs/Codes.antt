@@ -1,6 +1,6 @@
 -- What a column says of all its cells, as a byte.
 -- 0: nothing is known, and the column is asked at each cell. 1: its cells aren't read. 2: they are texts. 3: they are
--- numbers, which the column is asked for at each cell. 8 and more: they are read as decimal
+-- numbers, which the column is asked for at each cell. 4: they are amounts, which it reads as such. 8 and more: they are read as decimal
 -- digits behind an optional minus are, whatever else the format allows, as numbers of u8, u16, u32, u64, i8, i16, i32 or i64
 -- in this order. 16 is added where a number may be missing, and 32 where no zero may stand in front of another digit.
 use Rattle.std.specs.Prelude.{◌≡◌, ◌-◌, ◌*◌, ◌%◌, ◌^◌, ◌<◌, ◌≤◌, ◌⊎◌, ℕ, Bool, false, true, IsTrue, List, get_or, length, nat_le, slice_index, Option, Some, None, is_some, option_map}
@@ -9,6 +9,7 @@ use Rattle.lexical_util.specs.Number.{IntegerType, IsNumber, integer_type}
 use Rattle.lexical_parse_integer.specs.Plain.{IsPlain, keeps_zero_rule}
 use Rattle.lexical_parse_integer.specs.Value.{with_sign}
 use Rattle.lexical_fields.specs.Numerals.{IsNumeral}
+use Rattle.lexical_tables.specs.Amounts.{IsAmountsIn}
 use Rattle.lexical_tables.specs.Cells.{ends_in_digit}
 use Rattle.lexical_tables.specs.Quotes.{quote}
 use Rattle.lexical_tables.specs.Readings.{FixedPoints, Integers, Number, Reading, Texts}
@@ -59,11 +60,12 @@ pub record IsCode (code : ℕ) (target : Option TargetView) : Type 0 where
   pub read : 8 ≤ code → IsReadAs code target
 
 -- A code is right for a column in a table: where it says how its cells are read, no blanks stand there, and what stands for
--- a missing number is none itself.
+-- a missing number is none itself. So it is in a column of amounts.
 pub record IsCodeIn (dialect : Dialect) (code : ℕ) (target : Option TargetView) : Type 0 where
   pub column : IsCode code target
   pub no_blanks : 8 ≤ code → dialect.allows_blanks ≡ false
   pub no_number : 8 ≤ code → has_coded_bits code ≡ true → ends_in_digit dialect.missing.now ≡ false
+  pub amounts : code ≡ 4 → IsAmountsIn dialect target
 
 -- each column with a place among the codes has its code
 abbrev pub AreCodes : Dialect → List ℕ → List (Option TargetView) → Type 0

@@ -1,4 +1,5 @@
 -- The definitions that contracts name, a file for each subject.
+pub mod Amounts
 pub mod ByColumn
 pub mod Cells
 pub mod Codes

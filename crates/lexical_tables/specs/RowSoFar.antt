@@ -84,15 +84,15 @@ GoesOn dialect index text from left before after first column =
     → IsRowPut kinds dialect index row old after column
     (cells_behind dialect row column (length text - length left))
 
--- the same up to the row's end: no cell is left
+-- the same up to the row's end, of which nothing is wrong
 abbrev pub GoesToEnd : Dialect → ℕ → List ℕ → List ℕ → List (Option TargetView)
-    → List (Option TargetView) → ℕ → ℕ → Type 0
-GoesToEnd dialect index text from before after first column =
+    → List (Option TargetView) → ℕ → Type 0
+GoesToEnd dialect index text from before after first =
     (start : ℕ) (kinds : List (Option Kind)) (old : List (Option TargetView))
     → let row = first_row dialect start text in
     IsRowPut kinds dialect index row old before first
     (cells_behind dialect row first (length text - length from))
-    → IsRowPut kinds dialect index row old after column []
+    → IsRowDone kinds dialect index row old after None
 
 -- A part is the next cell of a text's first row, of which this is left: its size, what ends it, and whether it is the last.
 pub record IsPart (dialect : Dialect) (separator : ℕ) (text left : List ℕ)

@@ -14,7 +14,7 @@ use crate::content::{Cell, content};
 use crate::dialect::Dialect;
 use crate::known_cells::{had_at_once, read_text};
 use crate::misplaced::quote_fault;
-use crate::pass::read_rows;
+use crate::pass::{marked_separator, read_rows, read_unmarked_rows};
 use crate::rows::{Row, first_row};
 use crate::targets::TableColumn;
 use lexical_parse_integer::{Error, Options};
@@ -192,20 +192,28 @@ pub(crate) fn end_fault(
     })
 }
 
-// Tells what is wrong with the number of a row's cells, or with its end. Out of line: few rows have such a fault.
+// Tells what is wrong with the number of a row's cells, or with its end. Out of line: few rows have such a fault, and only these
+// have a `Row` made.
 #[inline(never)]
 pub(crate) fn put_end_fault(
-    row: &Row<'_>,
+    start: usize,
+    text: &[u8],
+    lacks_return: bool,
     index: usize,
     columns: usize,
     count: usize,
-    extra: Option<usize>,
     wrong: &mut Option<TableError>,
 )
-    requires fits { row.now.start + length row.now.text.now < 2 ^ 64 }
-    ensures { wrong.new ≡ end_fault columns index (view_of_row row.now) count extra }
+    requires fits { start + length text.now < 2 ^ 64 }
+    ensures { wrong.new ≡ end_fault columns index
+        (record { start = start; text = text.now; lacks_return = lacks_return }) count None }
 {
-    *wrong = end_fault(row, index, columns, count, extra);
+    let row = Row {
+        start,
+        text,
+        lacks_return,
+    };
+    *wrong = end_fault(&row, index, columns, count, None);
 }
 
 // Reads a cell as `read_cell` does, the first bytes of a text, so many, where it isn't had at once, and tells whether it is
@@ -371,8 +379,11 @@ pub fn read_columns<C: TableColumn>(
         (map C.target targets.old) }
     ensures goes_on { IfOk result (StopsAt dialect.now rows text.now) }
 {
+    let Some(separator) = marked_separator(text, dialect) else {
+        return read_unmarked_rows(text, dialect, options, rows, targets);
+    };
     if dialect.has_quotes {
-        return read_rows::<C, true>(text, dialect, options, rows, targets);
+        return read_rows::<C, true>(text, separator, dialect, options, rows, targets);
     }
-    read_rows::<C, false>(text, dialect, options, rows, targets)
+    read_rows::<C, false>(text, separator, dialect, options, rows, targets)
 }

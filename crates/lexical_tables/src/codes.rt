@@ -29,6 +29,10 @@ pub const TEXTS: u8 = 2;
 /// The column's cells are numbers, of which `read_at_once` has most.
 pub const AT_ONCE: u8 = 3;
 
+// The column's cells are amounts, which `TableColumn::read_amount` reads. A table's reader says it, of a column that says
+// `AT_ONCE`.
+pub(crate) const AMOUNTS: u8 = 4;
+
 /// Numbers of 8 bits without a sign.
 pub const U8: u8 = 8;
 
@@ -99,16 +103,44 @@ fn ends_in_digit(text: &[u8]) -> bool
     char_is_digit(text[text.len() - 1], 10)
 }
 
+// The code of a column of numbers that says `AT_ONCE`: where blanks are passed, or where the mark may be a number too, that.
+#[inline(always)]
+#[tactic(auto, using(crate::proofs::CodeSteps::low_code, crate::proofs::CodeSteps::amounts_code))]
+fn code_of_amounts<C: TableColumn>(target: &C, dialect: &Dialect<'_>, is_mark_number: bool) -> u8
+    requires mark { is_mark_number ≡ ends_in_digit dialect.now.missing.now }
+    requires code { IsCode 3 (C.target target.now) }
+    ensures { IsCodeIn dialect.now result (C.target target.now) }
+{
+    if dialect.allows_blanks {
+        return AT_ONCE;
+    }
+    if is_mark_number {
+        if target.may_miss() {
+            return AT_ONCE;
+        }
+    }
+    if target.has_amounts() {
+        return AMOUNTS;
+    }
+    AT_ONCE
+}
+
 // A column's code in a table: where blanks are passed, or where the mark may be a number too, its numbers are asked for.
 #[inline(always)]
-#[tactic(auto, using(crate::proofs::CodeSteps::asked_code))]
+#[tactic(auto, using(crate::proofs::CodeSteps::asked_code, crate::proofs::CodeSteps::low_code, crate::proofs::CodeSteps::none_code, crate::proofs::CodeSteps::type_code))]
 fn code_in<C: TableColumn>(target: &C, dialect: &Dialect<'_>, is_mark_number: bool) -> u8
     requires mark { is_mark_number ≡ ends_in_digit dialect.now.missing.now }
     ensures { IsCodeIn dialect.now result (C.target target.now) }
 {
     let code = target.code();
-    if code < U8 {
+    if code < AT_ONCE {
         return code;
+    }
+    if code == AT_ONCE {
+        return code_of_amounts(target, dialect, is_mark_number);
+    }
+    if code < U8 {
+        return UNKNOWN;
     }
     if dialect.allows_blanks {
         return AT_ONCE;

@@ -2,6 +2,7 @@
 
 ghost use Rattle.lexical_tables.specs.Targets.{view_of_column};
 
+use crate::amounts::is_quick;
 use crate::cell_text::CellText;
 use crate::codes::{AT_ONCE, NOT_READ, TEXTS};
 use crate::fixed_targets::FixedTarget;
@@ -122,6 +123,22 @@ impl TableColumn for Column<'_> {
             Column::Integers(target) => target.code(),
             Column::FixedPoints(_) => AT_ONCE,
             Column::Texts(_) => TEXTS,
+        }
+    }
+
+    #[inline(always)]
+    fn has_amounts(&self) -> bool {
+        match self {
+            Column::FixedPoints(target) => is_quick(&target.format),
+            Column::Unread | Column::Integers(_) | Column::Texts(_) => false,
+        }
+    }
+
+    #[inline(always)]
+    fn read_amount(&mut self, row: usize, ahead: &[u8], size: usize) -> bool {
+        match self {
+            Column::FixedPoints(target) => target.read_amount(row, ahead, size),
+            Column::Unread | Column::Integers(_) | Column::Texts(_) => unreachable!(),
         }
     }
 

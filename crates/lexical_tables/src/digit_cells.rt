@@ -3,6 +3,7 @@
 ghost use Rattle.std.specs.Prelude.{◌≡◌, ◌+◌, ◌-◌, ◌*◌, ◌<◌, ◌≤◌, ◌^◌, ℕ, IfSome, IsTrue, None, false, length, take, drop, option_map, true};
 ghost use Rattle.lexical_util.specs.Format.{Format};
 ghost use Rattle.lexical_fields.specs.Numerals.{IsNumeral};
+ghost use Rattle.lexical_tables.specs.Amounts.{IsAmountsIn};
 ghost use Rattle.lexical_tables.specs.ByColumn.{IsUsable, fault_in, kind_of, put_read};
 ghost use Rattle.lexical_tables.specs.Cells.{answer_as, quote_fault};
 ghost use Rattle.lexical_tables.specs.Codes.{AreQuotesRound, IsCodeIn, IsDecimal, IsNumberPut, IsNumeralUnder, IsReadAs, has_zero_rule};
@@ -124,6 +125,30 @@ pub(crate) fn read_coded<C: TableColumn, const HAS_QUOTES: bool>(
     }
     let (held, count) = within_quotes(ahead, size, HAS_QUOTES);
     put_found(target, code, row, held, count, number_of_front(held, count))
+}
+
+// Reads a cell of a column of amounts at once, the first bytes of a text, so many, and tells whether it did.
+#[inline(always)]
+pub(crate) fn read_amount<C: TableColumn>(
+    target: &mut C,
+    row: usize,
+    ahead: &[u8],
+    size: usize,
+    dialect: &Dialect<'_>,
+) -> bool
+    requires amounts { IsAmountsIn dialect.now (C.target target.old) }
+    requires usable { IsUsable (row + 1) (C.target target.old) }
+    requires room { size + 17 ≤ length ahead.now }
+    ensures fault { IsTrue result → (start : ℕ) → fault_in (answer_as dialect.now
+        (option_map kind_of (C.target target.old))
+        (record { start = start; text = take size ahead.now })) ≡ None }
+    ensures target { IsTrue result → (start : ℕ) → C.target target.new ≡ option_map (put_read row
+        (answer_as dialect.now (option_map kind_of (C.target target.old))
+        (record { start = start; text = take size ahead.now }))) (C.target target.old) }
+    ensures kept { result ≡ false → C.target target.new ≡ C.target target.old }
+{
+    let (held, count) = within_quotes(ahead, size, dialect.has_quotes);
+    target.read_amount(row, held, count)
 }
 
 // Reads a cell as `read_coded` does, of more digits.

@@ -1,6 +1,6 @@
-//! Cells whose ends stand behind the bytes of one look.
+//! Cells of a row that aren't had at once.
 
-ghost use Rattle.std.specs.Prelude.{◌≡◌, ◌+◌, ◌-◌, ◌<◌, ◌^◌, List, None, Option, false, length, map, true};
+ghost use Rattle.std.specs.Prelude.{◌≡◌, ◌+◌, ◌-◌, ◌<◌, ◌≤◌, ◌^◌, List, None, Option, false, length, map, true};
 ghost use Rattle.lexical_tables.specs.ByColumn.{AreUsable, column_count};
 ghost use Rattle.lexical_tables.specs.Cells.{Kind};
 ghost use Rattle.lexical_tables.specs.Codes.{AreCodes};
@@ -14,23 +14,16 @@ use crate::by_column::read_rest;
 use crate::coded_cells::read_left_cell;
 use crate::codes::CODED;
 use crate::dialect::Dialect;
-use crate::next_part::{Left, behind_part, found_part};
+use crate::next_part::{Left, found_part};
 use crate::pass::read_cells_at_once;
-use crate::row_end::{ReadTo, end_row};
+use crate::row_end::{ReadOn, done, end_row, not_done};
 use crate::targets::TableColumn;
 use lexical_parse_integer::Options;
 
-// What is left of a text behind a cell, or behind its row, if that is done.
-#[derive(Copy, Clone)]
-struct ReadOn<'a> {
-    left: Left<'a>,
-    is_done: bool,
-}
-
-// Reads the next cell of a row, of which this is left, wherever it ends. Where no look shows its end, that stands near the text's
-// own, and what is left of the row is read.
+// Reads the next cell of a row, of which this is left, behind so many columns, wherever it ends. Where no look shows its end,
+// that stands near the text's own, and what is left of the row is read. Where all columns are read, a cell is too many.
 #[inline(always)]
-fn read_far_cell<'a, C: TableColumn>(
+fn read_next_cell<'a, C: TableColumn>(
     start: usize,
     text: &'a [u8],
     left: Left<'a>,
@@ -47,7 +40,7 @@ fn read_far_cell<'a, C: TableColumn>(
     requires fine { wrong.old ≡ None }
     requires some { 0 < length text.now }
     requires columns { columns ≡ column_count dialect.now.layout }
-    requires more { column < columns }
+    requires few { column ≤ columns }
     requires here { IsOnRow dialect.now separator text.now left.text.now }
     requires marks { AreEnds dialect.now.has_quotes separator left.text.now left.marks }
     requires marked { IsMarked dialect.now separator }
@@ -61,9 +54,11 @@ fn read_far_cell<'a, C: TableColumn>(
         (first_row dialect.now start text.now) column
         (length text.now - length left.entry.text.now))
         → IsRowPut kinds dialect.now index (first_row dialect.now start text.now) old
-        (map C.target targets.new) (column + 1) (cells_behind dialect.now
-        (first_row dialect.now start text.now) (column + 1)
+        (map C.target targets.new) result.column (cells_behind dialect.now
+        (first_row dialect.now start text.now) result.column
         (length text.now - length result.left.text.now)) }
+    ensures next { result.is_done ≡ false → column < result.column }
+    ensures few { result.column ≤ columns }
     ensures here { result.is_done ≡ false
         → IsOnRow dialect.now separator text.now result.left.text.now }
     ensures codes { result.is_done ≡ false
@@ -86,14 +81,19 @@ fn read_far_cell<'a, C: TableColumn>(
         result.left.marks }
 {
     let passed = text.len() - left.text.len();
+    if column == columns {
+        *wrong = Some(TableError {
+            row: index,
+            column,
+            fault: CellFault::TooManyCells(start + passed),
+        });
+        return done(left, column);
+    }
     let Some(found) = found_part(text, left, separator, dialect) else {
         let text = read_rest(
             start, text, passed, column, index, dialect, options, targets, wrong,
         );
-        return ReadOn {
-            left: Left { text, marks: 0 },
-            is_done: true,
-        };
+        return done(Left { text, marks: 0 }, column);
     };
     if !read_left_cell(
         targets,
@@ -107,36 +107,25 @@ fn read_far_cell<'a, C: TableColumn>(
         options,
         wrong,
     ) {
-        return ReadOn {
-            left: found.behind,
-            is_done: true,
-        };
+        return done(found.behind, column);
     }
+    let count = column + 1;
     if !found.part.is_last {
-        return ReadOn {
-            left: found.behind,
-            is_done: false,
-        };
+        return not_done(found.behind, count);
     }
-    let read = ReadTo {
-        left,
-        column: column + 1,
-        part: found.part,
-    };
-    end_row(start, text, read, index, columns, separator, dialect, wrong);
-    ReadOn {
-        left: found.behind,
-        is_done: true,
-    }
+    end_row(
+        start, text, left.text, found.part, count, index, columns, separator, dialect, wrong,
+    );
+    done(found.behind, count)
 }
 
-// What is left of a text behind its first row, whose cells from here on are read: one that no look at 64 bytes shows the end of,
-// and those behind it. Out of line, since few tables have such cells, and the way of others stays short without them.
-#[inline(never)]
-pub(crate) fn read_far_cells<'a, C: TableColumn, const HAS_QUOTES: bool>(
+// What is left of a text behind its first row, whose cells behind so many columns are read, one by one where they aren't had at
+// once.
+#[inline(always)]
+pub(crate) fn read_row_on<'a, C: TableColumn, const HAS_QUOTES: bool>(
     start: usize,
     text: &'a [u8],
-    rest: &'a [u8],
+    from: Left<'a>,
     first: usize,
     index: usize,
     columns: usize,
@@ -146,13 +135,14 @@ pub(crate) fn read_far_cells<'a, C: TableColumn, const HAS_QUOTES: bool>(
     options: &Options,
     targets: &mut [C],
     wrong: &mut Option<TableError>,
-) -> &'a [u8]
+) -> Left<'a>
     requires quotes { dialect.now.has_quotes ≡ HAS_QUOTES }
     requires fine { wrong.old ≡ None }
     requires some { 0 < length text.now }
     requires columns { columns ≡ column_count dialect.now.layout }
-    requires more { first < columns }
-    requires here { IsOnRow dialect.now separator text.now rest.now }
+    requires few { first ≤ columns }
+    requires here { IsOnRow dialect.now separator text.now from.text.now }
+    requires marks { AreEnds dialect.now.has_quotes separator from.text.now from.marks }
     requires marked { IsMarked dialect.now separator }
     requires codes { AreCodes dialect.now codes.now (map C.target targets.old) }
     requires usable { AreUsable (index + 1) (map C.target targets.old) }
@@ -160,30 +150,29 @@ pub(crate) fn read_far_cells<'a, C: TableColumn, const HAS_QUOTES: bool>(
     ensures done { (kinds : List (Option Kind)) (old : List (Option TargetView))
         → IsRowPut kinds dialect.now index (first_row dialect.now start text.now) old
         (map C.target targets.old) first (cells_behind dialect.now
-        (first_row dialect.now start text.now) first (length text.now - length rest.now))
+        (first_row dialect.now start text.now) first
+        (length text.now - length from.entry.text.now))
         → IsRowDone kinds dialect.now index (first_row dialect.now start text.now) old
         (map C.target targets.new) wrong.new }
-    ensures behind { wrong.new ≡ None → result.now
+    ensures behind { wrong.new ≡ None → result.text.now
         ≡ behind_piece dialect.now.layout dialect.now.has_quotes text.now }
-    ensures shorter { wrong.new ≡ None → length result.now < length text.now }
+    ensures shorter { wrong.new ≡ None → length result.text.now < length text.now }
+    ensures marks { AreEnds dialect.now.has_quotes separator result.text.now result.marks }
 {
-    let mut left = Left {
-        text: rest,
-        marks: 0,
-    };
+    let mut left = from;
     let mut column = first;
     loop {
-        let far = read_far_cell(
+        let next = read_next_cell(
             start, text, left, column, index, columns, separator, codes, dialect, options, targets,
             wrong,
         );
-        if far.is_done {
-            return far.left.text;
+        if next.is_done {
+            return next.left;
         }
         let read = read_cells_at_once::<C, HAS_QUOTES>(
             text,
-            far.left,
-            column + 1,
+            next.left,
+            next.column,
             index,
             columns,
             separator,
@@ -191,17 +180,8 @@ pub(crate) fn read_far_cells<'a, C: TableColumn, const HAS_QUOTES: bool>(
             dialect,
             targets,
         );
-        if read.part.is_last {
-            end_row(start, text, read, index, columns, separator, dialect, wrong);
-            return behind_part(read.left, read.part.end).text;
-        }
-        if read.column == columns {
-            *wrong = Some(TableError {
-                row: index,
-                column: read.column,
-                fault: CellFault::TooManyCells(start + (text.len() - read.left.text.len())),
-            });
-            return read.left.text;
+        if read.is_done {
+            return read.left;
         }
         left = read.left;
         column = read.column;

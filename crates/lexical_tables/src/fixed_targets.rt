@@ -2,10 +2,12 @@
 
 ghost use Rattle.std.specs.Prelude.{◌≡◌, ◌+◌, ◌*◌, ◌<◌, ◌≤◌, ◌^◌, ℕ, IfSome, IsNone, IsTrue, None, Some, false, length, map, option_map, pos, set, take};
 ghost use Rattle.lexical_fixed.specs.Validity.{fixed_fault};
+ghost use Rattle.lexical_tables.specs.Amounts.{HasAmounts, IsAmountText};
 ghost use Rattle.lexical_tables.specs.ByColumn.{IsUsable};
 ghost use Rattle.lexical_tables.specs.Readings.{Number, fixed_answer};
 ghost use Rattle.lexical_tables.specs.Targets.{error_in, put_text, put_value, text_answer, text_fault, view_of_fixed, with_number, with_row_bit};
 
+use crate::amounts::units_of_front;
 use crate::numbers::Numbers;
 use crate::targets::put_presence;
 use lexical_fields::error_in_text;
@@ -137,6 +139,57 @@ impl FixedTarget<'_> {
     {
         self.numbers
             .put_fixed_at_once(row, ahead, size, &self.format)
+    }
+
+    // Puts the amount of a text's first bytes, so many, into a row's place, and sets the row's bit, where it is had at once, and
+    // tells whether it did.
+    #[inline(always)]
+    pub(crate) fn read_amount(&mut self, row: usize, ahead: &[u8], size: usize) -> bool
+        requires amounts { HasAmounts (Some (view_of_fixed self.old)) }
+        requires usable { IsUsable (row + 1) (Some (view_of_fixed self.old)) }
+        requires room { size + 17 ≤ length ahead.now }
+        ensures bytes { IsTrue result → IsAmountText (take size ahead.now) }
+        ensures fault { IsTrue result → (start : ℕ) → text_fault (Some (view_of_fixed self.old))
+            (record { start = start; text = take size ahead.now }) ≡ None }
+        ensures target { IsTrue result → (start : ℕ) → view_of_fixed self.new ≡ put_text row
+            (record { start = start; text = take size ahead.now }) (view_of_fixed self.old) }
+        ensures kept { result ≡ false → view_of_fixed self.new ≡ view_of_fixed self.old }
+    {
+        if !self.put_amount(row, ahead, size) {
+            return false;
+        }
+        put_presence(&mut self.present, row, true);
+        true
+    }
+
+    // Puts the amount of a text's first bytes, so many, into a row's place, where it is had at once.
+    #[inline(always)]
+    fn put_amount(&mut self, row: usize, ahead: &[u8], size: usize) -> bool
+        requires amounts { HasAmounts (Some (view_of_fixed self.old)) }
+        requires usable { IsUsable (row + 1) (Some (view_of_fixed self.old)) }
+        requires room { size + 17 ≤ length ahead.now }
+        ensures bytes { IsTrue result → IsAmountText (take size ahead.now) }
+        ensures fault { IsTrue result → (start : ℕ) → text_fault (Some (view_of_fixed self.old))
+            (record { start = start; text = take size ahead.now }) ≡ None }
+        ensures target { IsTrue result → (start : ℕ) → view_of_fixed self.new
+            ≡ record (view_of_fixed self.old) {
+              values = with_number row (text_answer (view_of_fixed self.old)
+                  (record { start = start; text = take size ahead.now }))
+                  (view_of_fixed self.old).values;
+            } }
+        ensures kept { result ≡ false → view_of_fixed self.new ≡ view_of_fixed self.old }
+    {
+        let format = &self.format;
+        let Some((is_negative, units)) = units_of_front(
+            ahead,
+            size,
+            format.point(),
+            format.places(),
+            format.takes_fewer(),
+        ) else {
+            return false;
+        };
+        self.numbers.put_with_sign(row, is_negative, units)
     }
 
     // Puts the number of a text into a row's place, and sets the row's bit, or tells the text's fault.

@@ -1,6 +1,6 @@
 //! Cells whose columns have texts, or numbers that are had at once.
 
-ghost use Rattle.std.specs.Prelude.{◌≡◌, ◌&&◌, ◌+◌, ◌<◌, ◌≤◌, ◌^◌, IsTrue, None, false, length, option_map, take, true};
+ghost use Rattle.std.specs.Prelude.{◌≡◌, ◌⊎◌, ◌&&◌, ◌+◌, ◌<◌, ◌≤◌, ◌^◌, IsTrue, None, false, length, option_map, take, true};
 ghost use Rattle.std.specs.Str.{bytes_eq};
 ghost use Rattle.lexical_tables.specs.ByColumn.{IsUsable, fault_in, kind_of, put_read};
 ghost use Rattle.lexical_tables.specs.Cells.{answer_as, quote_fault, view_of_cell};
@@ -8,7 +8,7 @@ ghost use Rattle.lexical_tables.specs.Codes.{IsCodeIn};
 ghost use Rattle.lexical_tables.specs.Targets.{has_bits, has_numbers, keeps_text, put_text, text_fault};
 
 use crate::cell_text::CellText;
-use crate::codes::{AT_ONCE, TEXTS};
+use crate::codes::{AMOUNTS, AT_ONCE, TEXTS};
 use crate::content::{Cell, content, text_of};
 use crate::dialect::Dialect;
 use crate::misplaced::quote_fault;
@@ -108,6 +108,14 @@ pub(crate) fn had_at_once<C: TableColumn>(target: &mut C, row: usize, held: Cell
     target.read_at_once(row, held.ahead, held.text.len())
 }
 
+// Whether a code says that a column has numbers which it may be asked for.
+#[inline(always)]
+fn has_numbers(code: u8) -> bool
+    ensures { IsTrue result → (code ≡ 3) ⊎ (code ≡ 4) }
+{
+    code == AT_ONCE || code == AMOUNTS
+}
+
 // Reads a cell in its column of numbers where quotes and blanks have no meaning, if it can't be the mark and the number is had at
 // once, and tells whether it did. Out of line: inlined, it makes the loop over rows too large to be inlined.
 #[inline(never)]
@@ -138,6 +146,7 @@ fn read_plain_number<C: TableColumn>(
 // Reads a cell as `read_known` does where quotes have no meaning and it can't be the mark, as most cells are, and tells whether
 // it did.
 #[inline(always)]
+#[tactic(auto, using(crate::proofs::CodeSteps::numbers_said))]
 pub(crate) fn read_plain<C: TableColumn>(
     target: &mut C,
     code: u8,
@@ -159,7 +168,7 @@ pub(crate) fn read_plain<C: TableColumn>(
     if code == TEXTS {
         return read_plain_text(target, row, cell, dialect);
     }
-    if code == AT_ONCE && !dialect.allows_blanks {
+    if has_numbers(code) && !dialect.allows_blanks {
         return read_plain_number(target, row, cell, dialect);
     }
     false
@@ -200,6 +209,7 @@ fn read_number_at_once<C: TableColumn>(
 
 // Reads a cell of a column whose code says that it has texts, or numbers that are had at once, and tells whether it did.
 #[inline(always)]
+#[tactic(auto, using(crate::proofs::CodeSteps::numbers_said))]
 pub(crate) fn read_known<C: TableColumn>(
     target: &mut C,
     code: u8,
@@ -221,7 +231,7 @@ pub(crate) fn read_known<C: TableColumn>(
     if code == TEXTS {
         return read_text(target, row, cell, dialect);
     }
-    if code == AT_ONCE {
+    if has_numbers(code) {
         return read_number_at_once(target, row, cell, dialect);
     }
     false

@@ -9,6 +9,7 @@
 #![tactic(auto)]
 
 mod alone;
+mod amounts;
 mod answers;
 mod at_once;
 mod bad_rows;
@@ -46,6 +47,7 @@ mod targets;
 mod text_targets;
 
 pub use alone::columns_alone;
+pub use amounts::{is_quick, units_of_front};
 pub use answers::{CellFault, Table, TableError};
 pub use at_once::put_at_once;
 pub use bad_rows::{BadRow, KeptRow, Skipped};

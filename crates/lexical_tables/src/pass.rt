@@ -8,16 +8,16 @@ ghost use Rattle.lexical_tables.specs.Quotes.{quote};
 ghost use Rattle.lexical_tables.specs.RowSoFar.{GoesOn, GoesToEnd, IsBehind, IsMarked, IsOnRow, IsPart};
 ghost use Rattle.lexical_tables.specs.Rows.{FirstCounts, behind_piece, carriage_return, first_row, rows_from};
 
-use crate::answers::{CellFault, Table, TableError};
+use crate::answers::{Table, TableError};
 use crate::by_column::read_rest;
 use crate::cells::column_count;
-use crate::coded_cells::{read_coded_cell, read_left_cell};
+use crate::coded_cells::read_coded_cell;
 use crate::codes::{CODED, UNKNOWN, put_codes};
 use crate::dialect::{Dialect, Layout};
 use crate::ends::{LEAST_MARKED, next_ends};
-use crate::far_cells::read_far_cells;
-use crate::next_part::{Left, Part, behind_part, next_part};
-use crate::row_end::{ReadTo, end_row};
+use crate::far_cells::read_row_on;
+use crate::next_part::{Left, behind_part, next_part};
+use crate::row_end::{ReadOn, done, ends_wrong, not_done};
 use crate::rows::without_empty_rows;
 use crate::targets::TableColumn;
 use lexical_parse_integer::Options;
@@ -41,25 +41,8 @@ pub(crate) fn marked_separator(text: &[u8], dialect: &Dialect<'_>) -> Option<u8>
     Some(separator)
 }
 
-// Nothing is known of what is left of a row, behind so many columns.
-#[inline(always)]
-fn read_to(left: Left<'_>, column: usize) -> ReadTo<'_>
-    ensures { result ≡ record {
-      left = left.entry;
-      column = column;
-      part = record { size = 0; end = 0; is_last = false };
-    } }
-{
-    let part = Part {
-        size: 0,
-        end: 0,
-        is_last: false,
-    };
-    ReadTo { left, column, part }
-}
-
 // Reads cells of a row at once, by the codes of their columns, from what is left of it on, as long as marks find them and they are
-// had. No call stands in the loop, so that all it needs stays in registers.
+// had, up to the row's end, if nothing is wrong there. No call stands in the loop, so that all it needs stays in registers.
 #[inline(always)]
 pub(crate) fn read_cells_at_once<'a, C: TableColumn, const HAS_QUOTES: bool>(
     text: &[u8],
@@ -71,33 +54,32 @@ pub(crate) fn read_cells_at_once<'a, C: TableColumn, const HAS_QUOTES: bool>(
     codes: &[u8; CODED],
     dialect: &Dialect<'_>,
     targets: &mut [C],
-) -> ReadTo<'a>
+) -> ReadOn<'a>
     requires quotes { dialect.now.has_quotes ≡ HAS_QUOTES }
     requires marks { AreEnds dialect.now.has_quotes separator from.text.now from.marks }
     requires here { IsOnRow dialect.now separator text.now from.text.now }
     requires columns { columns ≡ column_count dialect.now.layout }
+    requires few { first ≤ columns }
     requires marked { IsMarked dialect.now separator }
     requires codes { AreCodes dialect.now codes.now (map C.target targets.old) }
     requires usable { AreUsable (index + 1) (map C.target targets.old) }
-    ensures put { result.part.is_last ≡ false
+    ensures goes_on { result.is_done ≡ false
         → GoesOn dialect.now index text.now from.entry.text.now result.left.text.now
         (map C.target targets.old) (map C.target targets.new) first result.column }
-    ensures done { result.part.is_last ≡ true
-        → GoesToEnd dialect.now index text.now from.entry.text.now (map C.target targets.old)
-        (map C.target targets.new) first result.column }
-    ensures here { IsOnRow dialect.now separator text.now result.left.text.now }
+    ensures here { result.is_done ≡ false
+        → IsOnRow dialect.now separator text.now result.left.text.now }
+    ensures codes { result.is_done ≡ false
+        → AreCodes dialect.now codes.now (map C.target targets.new) }
+    ensures usable { result.is_done ≡ false → AreUsable (index + 1) (map C.target targets.new) }
+    ensures done { result.is_done ≡ true → GoesToEnd dialect.now index text.now from.entry.text.now
+        (map C.target targets.old) (map C.target targets.new) first }
+    ensures behind { result.is_done ≡ true → result.left.text.now
+        ≡ behind_piece dialect.now.layout dialect.now.has_quotes text.now }
+    ensures shorter { result.is_done ≡ true → length result.left.text.now < length text.now }
     ensures marks { AreEnds dialect.now.has_quotes separator result.left.text.now
         result.left.marks }
-    ensures codes { AreCodes dialect.now codes.now (map C.target targets.new) }
-    ensures usable { AreUsable (index + 1) (map C.target targets.new) }
-    ensures part { result.part.is_last ≡ true → IsPart dialect.now separator text.now
-        result.left.text.now result.part }
-    ensures few { result.part.is_last ≡ true → result.part.end < 64 }
-    ensures ends { result.part.is_last ≡ true → AreEnds dialect.now.has_quotes separator
-        (drop (result.part.end + 1) result.left.text.now)
-        (result.left.marks / 2 ^ result.part.end / 2) }
     ensures counted { first ≤ result.column }
-    ensures columns { first ≤ columns → result.column ≤ columns }
+    ensures few { result.column ≤ columns }
 {
     let mut left = from;
     let mut column = first;
@@ -109,29 +91,40 @@ pub(crate) fn read_cells_at_once<'a, C: TableColumn, const HAS_QUOTES: bool>(
             marks,
         };
         if marks == 0 {
-            return read_to(left, column);
+            return not_done(left, column);
         }
         let part = next_part(text, left.text, marks, separator, dialect);
+        let count = column + 1;
+        if ends_wrong(left.text, part, count, columns, dialect) {
+            return not_done(left, column);
+        }
         if !read_coded_cell::<C, HAS_QUOTES>(
             targets, codes, column, index, left.text, part.size, dialect,
         ) {
-            return read_to(left, column);
+            return not_done(left, column);
         }
-        column += 1;
-        if part.is_last {
-            return ReadTo { left, column, part };
-        }
+        column = count;
         left = behind_part(left, part.end);
+        if part.is_last {
+            return done(left, column);
+        }
     }
-    read_to(left, column)
+    not_done(left, column)
+}
+
+// What is left of a text behind a row, if that was read at once: then nothing is wrong, and no fault is asked for.
+#[derive(Copy, Clone)]
+pub(crate) struct Behind<'a> {
+    pub left: Left<'a>,
+    pub is_right: bool,
 }
 
 // The numbers of the first row of a text go to its place in the targets, up to the row's fault, which is told, where one pass of
 // marks finds its cells: what is left of the text behind it, where nothing is wrong. An answer that may be a fault would clear
-// its memory for each row.
+// its memory for each row. It says by a parameter who calls it: a function of one caller is inlined, however large it is.
 #[inline(always)]
-fn read_marked_row<'a, C: TableColumn, const HAS_QUOTES: bool>(
-    start: usize,
+fn read_marked_row<'a, C: TableColumn, const HAS_QUOTES: bool, const SKIPS: bool>(
+    end: usize,
     text: Left<'a>,
     index: usize,
     columns: usize,
@@ -141,7 +134,7 @@ fn read_marked_row<'a, C: TableColumn, const HAS_QUOTES: bool>(
     options: &Options,
     targets: &mut [C],
     wrong: &mut Option<TableError>,
-) -> Left<'a>
+) -> Behind<'a>
     requires quotes { dialect.now.has_quotes ≡ HAS_QUOTES }
     requires fine { wrong.old ≡ None }
     requires some { 0 < length text.text.now }
@@ -150,103 +143,46 @@ fn read_marked_row<'a, C: TableColumn, const HAS_QUOTES: bool>(
     requires marked { IsMarked dialect.now separator }
     requires codes { AreCodes dialect.now codes.now (map C.target targets.old) }
     requires usable { AreUsable (index + 1) (map C.target targets.old) }
-    requires fits { start + length text.text.now < 2 ^ 64 }
+    requires within { length text.text.now ≤ end }
     ensures fault { wrong.new ≡ row_fault (kinds_of (map C.target targets.old)) dialect.now
-        index (first_row dialect.now start text.entry.text.now) }
+        index (first_row dialect.now (end - length text.entry.text.now) text.entry.text.now) }
     ensures targets { map C.target targets.new ≡ put_row index (row_values
         (kinds_of (map C.target targets.old)) dialect.now
-        (first_row dialect.now start text.entry.text.now)) (map C.target targets.old) }
-    ensures behind { wrong.new ≡ None → result.text.now
+        (first_row dialect.now (end - length text.entry.text.now) text.entry.text.now))
+        (map C.target targets.old) }
+    ensures right { result.is_right ≡ true → wrong.new ≡ None }
+    ensures behind { wrong.new ≡ None → result.left.text.now
         ≡ behind_piece dialect.now.layout dialect.now.has_quotes text.entry.text.now }
-    ensures shorter { wrong.new ≡ None → length result.text.now < length text.entry.text.now }
-    ensures marks { AreEnds dialect.now.has_quotes separator result.text.now result.marks }
+    ensures shorter { wrong.new ≡ None → length result.left.text.now < length text.entry.text.now }
+    ensures marks { AreEnds dialect.now.has_quotes separator result.left.text.now
+        result.left.marks }
 {
-    let mut left = text;
-    let mut column = 0;
-    loop {
-        let read = read_cells_at_once::<C, HAS_QUOTES>(
-            text.text, left, column, index, columns, separator, codes, dialect, targets,
-        );
-        if read.part.is_last {
-            end_row(
-                start, text.text, read, index, columns, separator, dialect, wrong,
-            );
-            return behind_part(read.left, read.part.end);
-        }
-        let passed = text.text.len() - read.left.text.len();
-        if read.column == columns {
-            *wrong = Some(TableError {
-                row: index,
-                column: read.column,
-                fault: CellFault::TooManyCells(start + passed),
-            });
-            return read.left;
-        }
-        if read.left.marks == 0 {
-            if read.left.text.len() < LEAST_MARKED {
-                let text = read_rest(
-                    start,
-                    text.text,
-                    passed,
-                    read.column,
-                    index,
-                    dialect,
-                    options,
-                    targets,
-                    wrong,
-                );
-                return Left { text, marks: 0 };
-            }
-            let text = read_far_cells::<C, HAS_QUOTES>(
-                start,
-                text.text,
-                read.left.text,
-                read.column,
-                index,
-                columns,
-                separator,
-                codes,
-                dialect,
-                options,
-                targets,
-                wrong,
-            );
-            return Left { text, marks: 0 };
-        }
-        let part = next_part(
-            text.text,
-            read.left.text,
-            read.left.marks,
-            separator,
-            dialect,
-        );
-        if !read_left_cell(
-            targets,
-            codes,
-            read.column,
-            index,
-            start + passed,
-            read.left.text,
-            part.size,
-            dialect,
-            options,
-            wrong,
-        ) {
-            return read.left;
-        }
-        column = read.column + 1;
-        if part.is_last {
-            let read = ReadTo {
-                left: read.left,
-                column,
-                part,
-            };
-            end_row(
-                start, text.text, read, index, columns, separator, dialect, wrong,
-            );
-            return behind_part(read.left, part.end);
-        }
-        left = behind_part(read.left, part.end);
+    let read = read_cells_at_once::<C, HAS_QUOTES>(
+        text.text, text, 0, index, columns, separator, codes, dialect, targets,
+    );
+    if read.is_done {
+        return Behind {
+            left: read.left,
+            is_right: true,
+        };
+    }
+    let left = read_row_on::<C, HAS_QUOTES>(
+        end - text.text.len(),
+        text.text,
+        read.left,
+        read.column,
+        index,
+        columns,
+        separator,
+        codes,
+        dialect,
+        options,
+        targets,
+        wrong,
+    );
+    Behind {
+        left,
+        is_right: false,
     }
 }
 
@@ -285,9 +221,19 @@ pub(crate) fn read_row<'a, C: TableColumn, const HAS_QUOTES: bool>(
     ensures marks { AreEndsIf marked dialect.now.has_quotes result.text.now result.marks }
 {
     if let Some(separator) = marked {
-        return read_marked_row::<C, HAS_QUOTES>(
-            start, text, index, columns, separator, codes, dialect, options, targets, wrong,
+        let behind = read_marked_row::<C, HAS_QUOTES, true>(
+            start + text.text.len(),
+            text,
+            index,
+            columns,
+            separator,
+            codes,
+            dialect,
+            options,
+            targets,
+            wrong,
         );
+        return behind.left;
     }
     let behind = read_rest(
         start, text.text, 0, 0, index, dialect, options, targets, wrong,
@@ -342,16 +288,15 @@ pub(crate) fn ask_codes<C: TableColumn>(
     put_codes(dialect, targets, codes);
 }
 
-// `read_columns`, once for tables with quotes and once for others: out of line, so that each has one loop.
+// `read_columns` of a text without marks. Out of line: it makes no codes, and a short text doesn't pay for them.
 #[inline(never)]
-pub(crate) fn read_rows<C: TableColumn, const HAS_QUOTES: bool>(
+pub(crate) fn read_unmarked_rows<C: TableColumn>(
     text: &[u8],
     dialect: &Dialect<'_>,
     options: &Options,
     rows: usize,
     targets: &mut [C],
 ) -> Result<Table, TableError>
-    requires quotes { dialect.now.has_quotes ≡ HAS_QUOTES }
     requires usable { AreUsable rows (map C.target targets.old) }
     ensures answer { result ≡ columns_answer (kinds_of (map C.target targets.old)) dialect.now rows
         text.now }
@@ -359,22 +304,70 @@ pub(crate) fn read_rows<C: TableColumn, const HAS_QUOTES: bool>(
         (map C.target targets.old) }
     ensures goes_on { IfOk result (StopsAt dialect.now rows text.now) }
 {
-    let marked = marked_separator(text, dialect);
-    let columns = column_count(dialect);
-    let mut codes = [UNKNOWN; CODED];
-    ask_codes(marked, dialect, targets, &mut codes);
-    let mut left = behind_empty_rows(Left { text, marks: 0 }, marked, dialect);
+    let mut left = without_empty_rows(text, dialect);
     let mut count = 0;
     let mut wrong = None;
-    while count < rows && !left.text.is_empty() {
-        let start = text.len() - left.text.len();
-        let behind = read_row::<C, HAS_QUOTES>(
-            start, left, count, columns, marked, &codes, dialect, options, targets, &mut wrong,
+    while count < rows && !left.is_empty() {
+        let start = text.len() - left.len();
+        let behind = read_rest(
+            start, left, 0, 0, count, dialect, options, targets, &mut wrong,
         );
         if let Some(error) = wrong {
             return Err(error);
         }
-        left = behind_empty_rows(behind, marked, dialect);
+        left = without_empty_rows(behind, dialect);
+        count += 1;
+    }
+    Ok(Table {
+        rows: count,
+        stop: text.len() - left.len(),
+    })
+}
+
+// `read_columns` of a text with marks, once for tables with quotes and once for others: out of line, so that each has one loop.
+#[inline(never)]
+pub(crate) fn read_rows<C: TableColumn, const HAS_QUOTES: bool>(
+    text: &[u8],
+    separator: u8,
+    dialect: &Dialect<'_>,
+    options: &Options,
+    rows: usize,
+    targets: &mut [C],
+) -> Result<Table, TableError>
+    requires quotes { dialect.now.has_quotes ≡ HAS_QUOTES }
+    requires marked { IsMarked dialect.now separator }
+    requires usable { AreUsable rows (map C.target targets.old) }
+    ensures answer { result ≡ columns_answer (kinds_of (map C.target targets.old)) dialect.now rows
+        text.now }
+    ensures targets { map C.target targets.new ≡ columns_put dialect.now rows text.now
+        (map C.target targets.old) }
+    ensures goes_on { IfOk result (StopsAt dialect.now rows text.now) }
+{
+    let columns = column_count(dialect);
+    let mut codes = [UNKNOWN; CODED];
+    put_codes(dialect, targets, &mut codes);
+    let mut left = behind_empty_rows(Left { text, marks: 0 }, Some(separator), dialect);
+    let mut count = 0;
+    let mut wrong = None;
+    while count < rows && !left.text.is_empty() {
+        let behind = read_marked_row::<C, HAS_QUOTES, false>(
+            text.len(),
+            left,
+            count,
+            columns,
+            separator,
+            &codes,
+            dialect,
+            options,
+            targets,
+            &mut wrong,
+        );
+        if !behind.is_right {
+            if let Some(error) = wrong {
+                return Err(error);
+            }
+        }
+        left = behind_empty_rows(behind.left, Some(separator), dialect);
         count += 1;
     }
     Ok(Table {

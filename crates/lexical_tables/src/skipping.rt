@@ -85,7 +85,8 @@ fn read_row<'a, C: TableColumn, const HAS_QUOTES: bool>(
 }
 
 // Keeps what is known of a bad row that starts at a place, behind so many others, if there is room: what the text has behind
-// it. Out of line: bad rows are rare.
+// it. Out of line, and cold for the compiler: bad rows are rare.
+#[cold]
 #[inline(never)]
 fn pass_bad_row<'a, B: KeptRow>(
     text: &'a [u8],

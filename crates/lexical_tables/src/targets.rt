@@ -6,6 +6,7 @@ ghost use Rattle.lexical_util.specs.Format.{standard};
 ghost use Rattle.lexical_util.specs.Number.{IsNumber};
 ghost use Rattle.lexical_util.specs.Validity.{fault};
 ghost use Rattle.lexical_fields.specs.ReadFields.{field_answer};
+ghost use Rattle.lexical_tables.specs.Amounts.{HasAmounts, IsAmountText};
 ghost use Rattle.lexical_tables.specs.ByColumn.{IsUsable};
 ghost use Rattle.lexical_tables.specs.Codes.{IsCode, IsReadAs, coded_type};
 ghost use Rattle.lexical_tables.specs.Readings.{Number, Text};
@@ -213,6 +214,28 @@ pub trait TableColumn {
             (record { start = start; text = text.now })) (target self.old) }
     {
         self.read(row, start, text, ahead, options)
+    }
+
+    /// Whether its cells are amounts that `read_amount` reads. A column that says `AT_ONCE` is asked it, once a call.
+    fn has_amounts(&self) -> bool
+        ensures { IsTrue result → HasAmounts (target self.now) }
+    {
+        false
+    }
+
+    /// Does what `read_at_once` does, of an amount that [`units_of_front`](crate::units_of_front) has. By default it puts none.
+    fn read_amount(&mut self, row: usize, ahead: &[u8], size: usize) -> bool
+        requires amounts { HasAmounts (target self.old) }
+        requires usable { IsUsable (row + 1) (target self.old) }
+        requires room { size + 17 ≤ length ahead.now }
+        ensures bytes { IsTrue result → IsAmountText (take size ahead.now) }
+        ensures fault { IsTrue result → (start : ℕ) → text_fault (target self.old)
+            (record { start = start; text = take size ahead.now }) ≡ None }
+        ensures target { IsTrue result → (start : ℕ) → target self.new ≡ option_map (put_text row
+            (record { start = start; text = take size ahead.now })) (target self.old) }
+        ensures kept { result ≡ false → target self.new ≡ target self.old }
+    {
+        false
     }
 
     /// What the column says of all its cells, as one of [`codes`](crate::codes): it is asked once a call. `UNKNOWN`, as a

@@ -4,5 +4,6 @@ pub mod Compare
 pub mod Digit
 pub mod Faults
 pub mod Format
+pub mod Kind
 pub mod Number
 pub mod Validity

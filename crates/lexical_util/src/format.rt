@@ -3,19 +3,22 @@
 //! A format is made by a [`NumberFormatBuilder`] from [`STANDARD`], field by field, and is then
 //! handed to a parser by reference. The names of the fields are those of the Rust crate
 //! `lexical-util`; a field for floats has no place here.
-//! Its lists of fields are written from tools/fields.txt, by `make docs`.
 
 ghost use Rattle.std.specs.Prelude.{◌≡◌, ◌↔◌, ◌||◌, IsTrue, None, is_some};
 ghost use Rattle.lexical_util.specs.Format.{json, standard};
-ghost use Rattle.lexical_util.specs.Validity.{fault, has_unfit_literals};
+ghost use Rattle.lexical_util.specs.Kind.{kind_of};
+ghost use Rattle.lexical_util.specs.Validity.{fault};
 
 mod builder;
+mod content;
+mod kind;
 mod validity;
 
 use crate::error::Error;
 pub use builder::NumberFormatBuilder;
+use content::{Fields, STANDARD_FIELDS};
+pub use kind::FormatKind;
 use std::marker::Model;
-use validity::{are_alike, is_unfit, is_unfit_beside_literals};
 
 /// What a text of an integer may look like: its radix, its punctuation, and what is required or
 /// forbidden.
@@ -24,104 +27,44 @@ use validity::{are_alike, is_unfit, is_unfit_beside_literals};
 /// [`NumberFormat::error`] answers. Two formats are equal where all their fields are.
 #[derive(Debug, Copy, Clone, PartialEq, Eq)]
 pub struct NumberFormat {
-    mantissa_radix: u8,
-    case_sensitive_base_prefix: bool,
-    case_sensitive_base_suffix: bool,
-    required_integer_digits: bool,
-    required_mantissa_digits: bool,
-    no_positive_mantissa_sign: bool,
-    required_mantissa_sign: bool,
-    no_integer_leading_zeros: bool,
-    integer_leading_digit_separator: bool,
-    integer_internal_digit_separator: bool,
-    integer_trailing_digit_separator: bool,
-    integer_consecutive_digit_separator: bool,
-    integer_prefix_digit_separator: bool,
-    literal_prefixes: bool,
-    literal_octal_zero: bool,
-    // These stand last because the derived equality is proved in this order alone.
-    digit_separator: Option<u8>,
-    base_prefix: Option<u8>,
-    base_suffix: Option<u8>,
+    fields: Fields,
+    // Found when the format is made, so that a parser needn't ask field by field.
+    kind: FormatKind,
 }
 
 impl Model for NumberFormat {
+    ghost use Rattle.std.specs.Prelude.{◌≡◌};
+    ghost use Rattle.std.proofs.Common.{sym};
     ghost use Rattle.lexical_util.specs.Format.{Format};
+    ghost use Rattle.lexical_util.specs.Kind.{kind_of};
 
     ghost Value = { Format };
 
-    ghost view = { λ a. record {
-      mantissa_radix = a.mantissa_radix;
-      digit_separator = a.digit_separator;
-      base_prefix = a.base_prefix;
-      base_suffix = a.base_suffix;
-      case_sensitive_base_prefix = a.case_sensitive_base_prefix;
-      case_sensitive_base_suffix = a.case_sensitive_base_suffix;
-      required_integer_digits = a.required_integer_digits;
-      required_mantissa_digits = a.required_mantissa_digits;
-      no_positive_mantissa_sign = a.no_positive_mantissa_sign;
-      required_mantissa_sign = a.required_mantissa_sign;
-      no_integer_leading_zeros = a.no_integer_leading_zeros;
-      integer_leading_digit_separator = a.integer_leading_digit_separator;
-      integer_internal_digit_separator = a.integer_internal_digit_separator;
-      integer_trailing_digit_separator = a.integer_trailing_digit_separator;
-      integer_consecutive_digit_separator = a.integer_consecutive_digit_separator;
-      integer_prefix_digit_separator = a.integer_prefix_digit_separator;
-      literal_prefixes = a.literal_prefixes;
-      literal_octal_zero = a.literal_octal_zero;
-    } };
+    ghost view = { λ a. a.fields };
 
-    ghost inverse = { λ a. record {
-      mantissa_radix = a.mantissa_radix;
-      digit_separator = a.digit_separator;
-      base_prefix = a.base_prefix;
-      base_suffix = a.base_suffix;
-      case_sensitive_base_prefix = a.case_sensitive_base_prefix;
-      case_sensitive_base_suffix = a.case_sensitive_base_suffix;
-      required_integer_digits = a.required_integer_digits;
-      required_mantissa_digits = a.required_mantissa_digits;
-      no_positive_mantissa_sign = a.no_positive_mantissa_sign;
-      required_mantissa_sign = a.required_mantissa_sign;
-      no_integer_leading_zeros = a.no_integer_leading_zeros;
-      integer_leading_digit_separator = a.integer_leading_digit_separator;
-      integer_internal_digit_separator = a.integer_internal_digit_separator;
-      integer_trailing_digit_separator = a.integer_trailing_digit_separator;
-      integer_consecutive_digit_separator = a.integer_consecutive_digit_separator;
-      integer_prefix_digit_separator = a.integer_prefix_digit_separator;
-      literal_prefixes = a.literal_prefixes;
-      literal_octal_zero = a.literal_octal_zero;
-    } };
+    ghost invariant = { λ a. a.kind ≡ kind_of a.fields };
+
+    ghost inverse = { λ v. record { fields = v; kind = kind_of v } };
+
+    ghost inverse_ok = { λ a h i. record { fields = a.fields; kind = sym h i } };
 }
 
 /// Plain numerals in radix 10: an optional sign, and then at least one digit.
 pub const STANDARD: NumberFormat = NumberFormat {
-    mantissa_radix: 10,
-    digit_separator: None,
-    base_prefix: None,
-    base_suffix: None,
-    case_sensitive_base_prefix: false,
-    case_sensitive_base_suffix: false,
-    required_integer_digits: false,
-    required_mantissa_digits: true,
-    no_positive_mantissa_sign: false,
-    required_mantissa_sign: false,
-    no_integer_leading_zeros: false,
-    integer_leading_digit_separator: false,
-    integer_internal_digit_separator: false,
-    integer_trailing_digit_separator: false,
-    integer_consecutive_digit_separator: false,
-    integer_prefix_digit_separator: false,
-    literal_prefixes: false,
-    literal_octal_zero: false,
+    fields: STANDARD_FIELDS,
+    kind: FormatKind::Decimal,
 };
 
 /// Integers as JSON writes them (RFC 8259, section 6): [`STANDARD`] without a plus, and without a zero
 /// before another digit. Digits are required twice over, as integer and as mantissa digits.
 pub const JSON: NumberFormat = NumberFormat {
-    required_integer_digits: true,
-    no_positive_mantissa_sign: true,
-    no_integer_leading_zeros: true,
-    ..STANDARD
+    fields: Fields {
+        required_integer_digits: true,
+        no_positive_mantissa_sign: true,
+        no_integer_leading_zeros: true,
+        ..STANDARD_FIELDS
+    },
+    kind: FormatKind::Decimal,
 };
 
 // The fields of the constants: a clause can't name a constant of this type, so it stands here.
@@ -137,7 +80,7 @@ impl NumberFormat {
     pub fn mantissa_radix(&self) -> u32
         ensures { result ≡ self.now.mantissa_radix }
     {
-        u32::from(self.mantissa_radix)
+        u32::from(self.fields.mantissa_radix)
     }
 
     /// The radix of the digits, as `mantissa_radix`.
@@ -156,7 +99,7 @@ impl NumberFormat {
     pub fn digit_separator(&self) -> Option<u8>
         ensures { result ≡ self.now.digit_separator }
     {
-        self.digit_separator
+        self.fields.digit_separator
     }
 
     /// The byte that makes a prefix with a `0` before it: with `x` a text may begin with `0x`, directly
@@ -167,7 +110,7 @@ impl NumberFormat {
     pub fn base_prefix(&self) -> Option<u8>
         ensures { result ≡ self.now.base_prefix }
     {
-        self.base_prefix
+        self.fields.base_prefix
     }
 
     /// The byte that may come after the last digit, as `h` in `1Fh`.
@@ -177,7 +120,7 @@ impl NumberFormat {
     pub fn base_suffix(&self) -> Option<u8>
         ensures { result ≡ self.now.base_suffix }
     {
-        self.base_suffix
+        self.fields.base_suffix
     }
 
     /// Whether a prefix is set.
@@ -185,7 +128,7 @@ impl NumberFormat {
     pub fn has_base_prefix(&self) -> bool
         ensures { result ≡ is_some self.now.base_prefix }
     {
-        self.base_prefix.is_some()
+        self.fields.base_prefix.is_some()
     }
 
     /// Whether the prefix is matched exactly, so that `0X` is none where `x` is set. Else ASCII case
@@ -194,7 +137,7 @@ impl NumberFormat {
     pub fn case_sensitive_base_prefix(&self) -> bool
         ensures { result ≡ self.now.case_sensitive_base_prefix }
     {
-        self.case_sensitive_base_prefix
+        self.fields.case_sensitive_base_prefix
     }
 
     /// Whether the suffix is matched exactly, so that `H` is none where `h` is set. Else ASCII case
@@ -203,7 +146,7 @@ impl NumberFormat {
     pub fn case_sensitive_base_suffix(&self) -> bool
         ensures { result ≡ self.now.case_sensitive_base_suffix }
     {
-        self.case_sensitive_base_suffix
+        self.fields.case_sensitive_base_suffix
     }
 
     /// Whether digits are required in the integer part, which is all that an integer has.
@@ -211,7 +154,7 @@ impl NumberFormat {
     pub fn required_integer_digits(&self) -> bool
         ensures { result ≡ self.now.required_integer_digits }
     {
-        self.required_integer_digits
+        self.fields.required_integer_digits
     }
 
     /// Whether digits are required, as in [`STANDARD`].
@@ -219,7 +162,7 @@ impl NumberFormat {
     pub fn required_mantissa_digits(&self) -> bool
         ensures { result ≡ self.now.required_mantissa_digits }
     {
-        self.required_mantissa_digits
+        self.fields.required_mantissa_digits
     }
 
     /// Whether a text without digits is refused (`Error::Empty`), since `required_integer_digits` or
@@ -228,7 +171,7 @@ impl NumberFormat {
     pub fn required_digits(&self) -> bool
         ensures { result ≡ (self.now.required_integer_digits || self.now.required_mantissa_digits) }
     {
-        self.required_integer_digits || self.required_mantissa_digits
+        self.fields.required_integer_digits || self.fields.required_mantissa_digits
     }
 
     /// Whether a text that begins with `+` is refused (`Error::InvalidPositiveSign`).
@@ -236,7 +179,7 @@ impl NumberFormat {
     pub fn no_positive_mantissa_sign(&self) -> bool
         ensures { result ≡ self.now.no_positive_mantissa_sign }
     {
-        self.no_positive_mantissa_sign
+        self.fields.no_positive_mantissa_sign
     }
 
     /// Whether a text without a sign is refused (`Error::MissingSign`).
@@ -246,7 +189,7 @@ impl NumberFormat {
     pub fn required_mantissa_sign(&self) -> bool
         ensures { result ≡ self.now.required_mantissa_sign }
     {
-        self.required_mantissa_sign
+        self.fields.required_mantissa_sign
     }
 
     /// Whether a zero before another digit is refused (`Error::InvalidLeadingZeros`): `01` is,
@@ -255,7 +198,7 @@ impl NumberFormat {
     pub fn no_integer_leading_zeros(&self) -> bool
         ensures { result ≡ self.now.no_integer_leading_zeros }
     {
-        self.no_integer_leading_zeros
+        self.fields.no_integer_leading_zeros
     }
 
     /// Whether separators may come before the first digit, as in `_12`, or where there is none.
@@ -263,7 +206,7 @@ impl NumberFormat {
     pub fn integer_leading_digit_separator(&self) -> bool
         ensures { result ≡ self.now.integer_leading_digit_separator }
     {
-        self.integer_leading_digit_separator
+        self.fields.integer_leading_digit_separator
     }
 
     /// Whether separators may come between two digits, as in `1_2`.
@@ -271,7 +214,7 @@ impl NumberFormat {
     pub fn integer_internal_digit_separator(&self) -> bool
         ensures { result ≡ self.now.integer_internal_digit_separator }
     {
-        self.integer_internal_digit_separator
+        self.fields.integer_internal_digit_separator
     }
 
     /// Whether separators may come after the last digit, as in `12_`, or where there is none.
@@ -279,7 +222,7 @@ impl NumberFormat {
     pub fn integer_trailing_digit_separator(&self) -> bool
         ensures { result ≡ self.now.integer_trailing_digit_separator }
     {
-        self.integer_trailing_digit_separator
+        self.fields.integer_trailing_digit_separator
     }
 
     /// Whether separators may come side by side, as in `1__2`. Where this isn't set, two in a
@@ -288,7 +231,7 @@ impl NumberFormat {
     pub fn integer_consecutive_digit_separator(&self) -> bool
         ensures { result ≡ self.now.integer_consecutive_digit_separator }
     {
-        self.integer_consecutive_digit_separator
+        self.fields.integer_consecutive_digit_separator
     }
 
     /// Whether separators may come directly after a prefix, as in `0x_1F`: a run of them with no digit before it is
@@ -297,7 +240,7 @@ impl NumberFormat {
     pub fn integer_prefix_digit_separator(&self) -> bool
         ensures { result ≡ self.now.integer_prefix_digit_separator }
     {
-        self.integer_prefix_digit_separator
+        self.fields.integer_prefix_digit_separator
     }
 
     /// Whether the text may choose its radix: a `0x`, `0o` or `0b` directly after the sign is a prefix, and makes the
@@ -307,7 +250,7 @@ impl NumberFormat {
     pub fn literal_prefixes(&self) -> bool
         ensures { result ≡ self.now.literal_prefixes }
     {
-        self.literal_prefixes
+        self.fields.literal_prefixes
     }
 
     /// Whether a first zero makes a numeral octal, as in C: where a `0` is directly after the sign, and is no part
@@ -316,7 +259,15 @@ impl NumberFormat {
     pub fn literal_octal_zero(&self) -> bool
         ensures { result ≡ self.now.literal_octal_zero }
     {
-        self.literal_octal_zero
+        self.fields.literal_octal_zero
+    }
+
+    /// What kind of texts the format admits: found when it was made.
+    #[inline(always)]
+    pub fn kind(&self) -> FormatKind
+        ensures { result ≡ kind_of self.now }
+    {
+        self.kind
     }
 
     /// The first rule that the format breaks, and `None` where it is valid.
@@ -338,39 +289,10 @@ impl NumberFormat {
     pub fn error(&self) -> Option<Error>
         ensures { result ≡ fault self.now }
     {
-        let radix = self.radix();
-        if radix < 2 || radix > 36 {
-            Some(Error::InvalidMantissaRadix)
-        } else if is_unfit(self.digit_separator, radix) {
-            Some(Error::InvalidDigitSeparator)
-        } else if is_unfit(self.base_prefix, radix) {
-            Some(Error::InvalidBasePrefix)
-        } else if is_unfit(self.base_suffix, radix) {
-            Some(Error::InvalidBaseSuffix)
-        } else if are_alike(self.digit_separator, self.base_prefix)
-            || are_alike(self.digit_separator, self.base_suffix)
-            || are_alike(self.base_prefix, self.base_suffix)
-        {
-            Some(Error::InvalidPunctuation)
-        } else if self.has_unfit_literals() {
-            Some(Error::InvalidLiteralPrefixes)
-        } else {
-            None
+        match self.kind {
+            FormatKind::Invalid => self.fields.fault(),
+            _ => None,
         }
-    }
-
-    // Whether literal prefixes or octal zeros are asked for where they can't be told apart.
-    #[inline(always)]
-    fn has_unfit_literals(&self) -> bool
-        ensures { result ≡ has_unfit_literals self.now }
-    {
-        let are_asked_for = self.literal_prefixes;
-        let chooses_radix = are_asked_for || self.literal_octal_zero;
-        (chooses_radix && self.mantissa_radix != 10)
-            || (are_asked_for
-                && (self.has_base_prefix()
-                    || is_unfit_beside_literals(self.digit_separator)
-                    || is_unfit_beside_literals(self.base_suffix)))
     }
 
     /// Whether the format breaks no rule, so that `error` answers `None`.
@@ -378,6 +300,20 @@ impl NumberFormat {
     pub fn is_valid(&self) -> bool
         ensures { IsTrue result ↔ (fault self.now ≡ None) }
     {
-        self.error().is_none()
+        match self.kind {
+            FormatKind::Invalid => false,
+            _ => true,
+        }
+    }
+
+    // The format with these fields.
+    #[inline(always)]
+    fn of(fields: &Fields) -> NumberFormat
+        ensures { result ≡ fields.now }
+    {
+        NumberFormat {
+            fields: *fields,
+            kind: fields.kind(),
+        }
     }
 }

@@ -2,6 +2,7 @@
 
 from __future__ import annotations
 
+import sys
 from typing import TYPE_CHECKING, Callable, Iterator, Optional, Protocol, Union
 
 from ._core import _keep_memory, _parse_part
@@ -35,7 +36,7 @@ def _block(file: File, size: int) -> bytes:
     """The next bytes of a file, or none at its end."""
     if not hasattr(file, "read"):
         raise TypeError(f"file has to be one opened by \"rb\", and not {type(file).__name__}")
-    block = file.read(size)
+    block = file.read(min(size, sys.maxsize))
     if isinstance(block, bytes):
         return block
     if block is None:

@@ -1,4 +1,4 @@
-"""The header of a table: its first line, which names the columns."""
+"""The header of a table: its first line or record, which names the columns."""
 
 from __future__ import annotations
 
@@ -40,12 +40,19 @@ def _name(cell: bytes, how: How) -> str:
     return cell.decode("utf-8", "surrogateescape")
 
 
-def names_of(line: bytes, how: How) -> list[str]:
-    """The names in a header's line."""
+def _without_end(line: bytes, how: How) -> bytes:
+    """A line without what ends it. A record has no end."""
+    if how.is_records:
+        return line
     is_ended = line.endswith(b"\n")
     line = line.removesuffix(b"\n")
-    if how.has_returns or (how.allows_returns and is_ended):
-        line = line.removesuffix(b"\r")
+    is_returned = how.has_returns or (how.allows_returns and is_ended)
+    return line.removesuffix(b"\r") if is_returned else line
+
+
+def names_of(line: bytes, how: How) -> list[str]:
+    """The names in a header's line or record."""
+    line = _without_end(line, how)
     if how.widths is not None:
         return [_name(cell, how) for cell in header_cells(line, sizes_of(how.widths))]
     separator = byte_of(b"," if how.separator is None else how.separator)
@@ -61,8 +68,8 @@ def with_header(how: How, header: bool) -> How:
         raise TypeError(f"header has to be True or False, and not {type(header).__name__}")
     if how.widths is not None and how.separator is not None:
         raise ValueError("separator has to be None where there are widths")
-    if header and how.is_records:
-        raise ValueError("header has to be False where is_records is true: no line has the names")
+    if how.is_records and how.widths is None:
+        raise ValueError("widths have to be there where is_records is true")
     return how._replace(widths=sizes_of(how.widths)) if header and how.widths is not None else how
 
 
@@ -92,18 +99,50 @@ def read_header(
 ) -> tuple[list[str], Iterator[bytes], Part]:
     """The names of a header, the blocks after it, and how many bytes and lines stand before them.
 
-    A line feed within quotes doesn't end the header, unless the quotes never close. ValueError is
-    raised for a header of more than `size` bytes, for a text without a byte, and for one with
-    returns and no line feed.
+    ValueError is raised for a header of more than `size` bytes, for a text without a byte, and for
+    one with returns and no line feed.
     """
-    blocks, skipped = _behind_empty_rows(blocks, how)
+    if how.is_records:
+        skipped, (line, rest) = Part(), _first_record(blocks, max(sum(how.widths or ()), 1), size)
+    else:
+        blocks, skipped = _behind_empty_rows(blocks, how)
+        line, rest = _first_line(blocks, how, size, skipped.start)
+    before = Part(start=skipped.start + len(line), line=skipped.line + line.count(b"\n"))
+    names = names_of(bytes(line if skipped.start else line.removeprefix(_MARK)), how)
+    return names, chain([rest] if rest else [], blocks), before
+
+
+def _first_record(blocks: Iterator[bytes], record: int, size: int) -> tuple[bytes, bytes]:
+    """The first record, with a byte order mark that stands before it, and what was read after it.
+    """
+    text = bytearray()
+    for block in blocks:
+        text += block
+        may_be_mark = len(text) < len(_MARK) and _MARK.startswith(text)
+        stop = record + (len(_MARK) if text.startswith(_MARK) else 0)
+        if min(len(text), stop) > size:
+            raise ValueError(f"the header has more than {size} bytes")
+        if not block or (len(text) >= stop and not may_be_mark):
+            break
+    if not text:
+        raise ValueError("there is no header: the text has no byte")
+    return bytes(text[:stop]), bytes(text[stop:])
+
+
+def _first_line(
+    blocks: Iterator[bytes], how: How, size: int, before: int
+) -> tuple[bytes, bytes]:
+    """The first line, and what was read after it, of a text after `before` bytes.
+
+    A line feed within quotes doesn't end it, unless the quotes never close.
+    """
     line, is_within = bytearray(), False
     for block in blocks:
         end, _, is_within = _row_ends(block, how.has_quotes, is_within)
         start = len(line)
         line += block[:end] if end else block
         if len(line) > size:
-            quote = _quote_in(line, skipped.start) if is_within else ""
+            quote = _quote_in(line, before) if is_within else ""
             raise ValueError(f"the header has more than {size} bytes{quote}")
         if end or not block:
             break
@@ -112,13 +151,10 @@ def read_header(
     if not end and b"\r" in line[:-1] and b"\n" not in line:
         raise ValueError("the text has returns and no line feed, which has to end each line"
                          f"{hint_at(line)}")
-    rest = memoryview(block)[len(line) - start:]
     if not end and is_within and b"\n" in line:
         end = line.index(b"\n") + 1
-        line, rest = line[:end], memoryview(line[end:])
-    before = Part(start=skipped.start + len(line), line=skipped.line + line.count(b"\n"))
-    names = names_of(bytes(line if skipped.start else line.removeprefix(_MARK)), how)
-    return names, chain([bytes(rest)] if rest else [], blocks), before
+        return bytes(line[:end]), bytes(line[end:])
+    return bytes(line), bytes(memoryview(block)[len(line) - start:])
 
 
 def _quote_in(line: bytes, start: int) -> str:

@@ -104,8 +104,6 @@ class Reader:
         if how.widths is not None:
             sizes = sizes_of(how.widths)
             ask_count(sizes, len(self.cells))
-        if how.is_records and not sizes:
-            raise ValueError("widths have to be there where is_records is true")
         separator = b"," if how.separator is None else how.separator
         self.how = (separator, *how[1:6], sizes, how.is_records, how.allows_returns)
         self.has_quotes = bool(how.has_quotes)

@@ -26,6 +26,10 @@ if TYPE_CHECKING:
     from ._reader import Columns
 
 
+# No call starts more threads than this, whatever it is asked for: each takes memory.
+_MOST_THREADS = 1024
+
+
 class _Asked(NamedTuple):
     """The arguments of a call, without its text or file."""
 
@@ -41,6 +45,11 @@ class _Asked(NamedTuple):
     def reader(self, names: Optional[list[str]] = None) -> Reader:
         """How the rows are read, after a header with these names, or without one."""
         return Reader(self.columns, self.how, self.at, names)
+
+
+def _thread_count(threads: object) -> int:
+    """How many threads a call has, if it is asked for 1 or more."""
+    return min(_one_or_more("threads", threads), _MOST_THREADS)
 
 
 def _writable_size(values: Any) -> int:
@@ -81,7 +90,7 @@ def _parse(
     arrays = reader.room(rows) if out is None else _room_of(reader, out, rows)
     found = Rows.of(reader, arrays, rows)
     if threads > 1:
-        found.count, found.bad = parse_in_threads(reader, text, arrays, threads, before)
+        found.count, found.bad = parse_in_threads(reader, text, arrays, rows, threads, before)
     else:
         stop = found.read(text, before)
         found.raise_fault()
@@ -92,7 +101,7 @@ def _parse(
 
 def _parse_text(text: Text, asked: _Asked) -> Table:
     """The rows of a text, with a header or without one."""
-    threads = _one_or_more("threads", asked.threads)
+    threads = _thread_count(asked.threads)
     asked = asked._replace(how=with_header(asked.how, asked.header))
     if not asked.header:
         return _parse(asked.reader(), text, asked.out, threads, Part())
@@ -143,10 +152,10 @@ def parse_table(
     Sparse of arrays for a Column with may_miss. The table has them, up to the last row.
     threads: how many threads read the text, each a part of it. The rows and errors are the same for
     any number. After an error, `out` may hold anything.
-    header: the first line names the columns. `columns` then selects by name, in any order, and
-    other columns aren't read. A byte order mark may stand before the header, and so may empty rows
-    that are skipped. The header's cells have the widths too, and with allows_blanks, its names may
-    have blanks around them.
+    header: the first line, or the first of the records, names the columns. `columns` then selects
+    by name, in any order, and other columns aren't read. A byte order mark may stand before the
+    header, and so may empty rows that are skipped. The header's cells have the widths too, and with
+    allows_blanks, its names may have blanks around them.
     on_error: "raise" raises the error of the first bad row. "skip" skips bad rows, and stores the
     others without gaps; the table's `bad_rows` counts those skipped. The place after the last row
     in `out` may then change.
@@ -296,7 +305,7 @@ def _told_rows(
 
 def _read_opened(file: File, asked: _Asked) -> Table:
     """The rows of an opened file."""
-    size, threads = _one_or_more("size", asked.size), _one_or_more("threads", asked.threads)
+    size, threads = _one_or_more("size", asked.size), _thread_count(asked.threads)
     if asked.out is not None:  # (all its rows are counted before one is written)
         return _parse_text(b"".join(_blocks(file, size, asked.progress)), asked)
     left = _size_left(file)
@@ -354,7 +363,7 @@ def iter_table(
     and a table may have no row.
     """
     rows, size = _one_or_more("rows", rows), _one_or_more("size", size)
-    threads, row = _one_or_more("threads", threads), 0
+    threads, row = _thread_count(threads), 0
     how = How(separator, has_returns, has_quotes, allows_blanks, skips_empty_rows, missing, widths,
               is_records, allows_returns)
     at = at_fault(on_error, errors, _name_of(file))

@@ -69,10 +69,10 @@ def _join(values: Any, parts: list[Any], lines: list[int], counts: list[int]) ->
 
 
 def parse_in_threads(
-    reader: Reader, text: Text, arrays: Table, threads: int, before: Part
+    reader: Reader, text: Text, arrays: Table, room: int, threads: int, before: Part
 ) -> tuple[int, int]:
-    """Reads the parts of a text in several threads. Returns how many rows there are, and how many
-    bad ones were skipped."""
+    """Reads the parts of a text in several threads, into arrays with room for so many rows. Returns
+    how many rows there are, and how many bad ones were skipped."""
     reader.parse(text, 0, arrays, 0, 0)  # (this refuses wrong arguments)
     # The pool comes last, so that its threads have ended when the memory that they use is let go.
     with ExitStack() as held, Pool(threads) as pool:
@@ -81,6 +81,8 @@ def parse_in_threads(
         stops = _row_stops(whole, parts, reader.has_quotes, reader.record)
         texts = [held.enter_context(whole[start:stop]) for start, stop in zip([0, *stops], stops)]
         lines = pool.map(lambda it: _row_count(it, reader.record), texts)
+        if sum(lines) > room:
+            raise_changed()
         rooms = [_room_behind(reader, arrays, row, rows, held)
                  for row, rows in zip(accumulate(lines, initial=0), lines)]
 

@@ -162,7 +162,7 @@ pub fn parse_partial_with_format<T: Integer>(
     integer::partial_with(text.as_ref(), format)
 }
 
-/// The version of the linked library: 100 for 0.1.0.
+/// The version of the linked library: 200 for 0.2.0.
 pub fn library_version() -> u32 {
     // SAFETY: the call has no argument and reads nothing.
     unsafe { sys::jadvolni_version() }

@@ -168,7 +168,12 @@ fn faults_as_texts() {
     let fault: Box<dyn std::error::Error> = Box::new(parse::<u8>("256").unwrap_err());
     assert_eq!(fault.to_string(), "overflow at byte 2");
     assert_eq!(parse::<u8>("256").unwrap_err().place(), Some(2));
-    assert_eq!(jadvolni::library_version(), 100);
+}
+
+#[test]
+fn the_library_has_the_version_of_the_crate() {
+    let numbers = env!("CARGO_PKG_VERSION").split('.').map(|it| it.parse::<u32>().unwrap());
+    assert_eq!(jadvolni::library_version(), numbers.fold(0, |front, it| 100 * front + it));
 }
 
 /// Each text is that of the list which all bindings share, by the name of the fault.

@@ -16,7 +16,6 @@ ghost use Rattle.lexical_parse_integer.specs.Reading.{Reads, ReadsAll, ReadsNume
 
 use crate::affixes::{octal_zero_at, prefix_radix, suffix_at};
 use crate::algorithm::digits::join_checked;
-use crate::algorithm::punctuated::validity::fault_of;
 use crate::seek::{Found, digit_at, seek};
 use lexical_digits::zeros;
 use lexical_util::error::Error;
@@ -365,7 +364,7 @@ pub(super) fn completion<T: Integer>(bytes: &[u8], front: Result<(T, usize)>) ->
 pub(crate) fn complete_from_front<T: Integer>(bytes: &[u8], format: &NumberFormat) -> Result<T>
     ensures { view_of T.number result ≡ complete_if_valid format.now T.TYPE bytes.now }
 {
-    match fault_of(format) {
+    match format.error() {
         Some(broken) => Err(broken),
         None => completion::<T>(bytes, partial_from_front::<T>(bytes, format)),
     }

@@ -12,12 +12,10 @@ ghost use Rattle.lexical_parse_integer.specs.Head.{head_of, sign};
 ghost use Rattle.lexical_parse_integer.specs.Plain.{keeps_zero_rule};
 
 mod threes;
-pub(crate) mod validity;
 
 use crate::algorithm::front::{Head, sign_of};
 use crate::algorithm::plain::keeps_zero_rule;
 use crate::algorithm::punctuated::threes::value_of_threes;
-use crate::algorithm::punctuated::validity::{is_valid_with_separator, is_valid_without_separator};
 use lexical_digits::fronts::value_of_digits;
 use lexical_digits::nibbles::value_of_nibbles;
 use lexical_digits::table::value_by_table;
@@ -197,16 +195,26 @@ fn head_at_once<T: Integer>(
     None
 }
 
+// Whether a format has no prefix of its own, or one beside hexadecimal digits that is none of them.
+#[inline(always)]
+fn is_past_digits(format: &NumberFormat) -> bool
+    ensures { IsTrue result → IfSome format.now.base_prefix (λ prefix. 102 < prefix) }
+{
+    match format.base_prefix() {
+        Some(prefix) => format.mantissa_radix() == 16 && prefix > b'f',
+        None => true,
+    }
+}
+
 // The value of the whole text under a format without separator that may be invalid, where digits alone stand behind its
 // sign, and no prefix but `0x`.
 #[inline(never)]
 pub(super) fn value_of_row<T: Integer>(bytes: &[u8], format: &NumberFormat) -> Option<T>
-    requires { format.now.digit_separator ≡ None }
     ensures valid { IfSome result (λ value. IsNone (fault format.now)) }
     ensures answer { IfSome result
         (λ value. complete format.now T.TYPE bytes.now ≡ Ok (T.number value)) }
 {
-    if !is_valid_without_separator(format) {
+    if !format.is_valid() || format.base_suffix().is_some() || !is_past_digits(format) {
         return None;
     }
     let Ok((is_negative, start)) = sign_of::<T>(bytes, format) else {
@@ -238,6 +246,17 @@ pub(super) fn is_parted_otherwise(bytes: &[u8], separator: u8) -> bool {
     bytes[n - 1] == separator || bytes[n - 2] == separator
 }
 
+// Whether a format is decimal and has neither a prefix of its own nor a suffix: one test of all.
+#[inline(always)]
+fn has_decimals_alone(format: &NumberFormat) -> bool
+    ensures decimal { IsTrue result → format.now.mantissa_radix ≡ 10 }
+    ensures no_prefix { IsTrue result → format.now.base_prefix ≡ None }
+{
+    !(format.base_suffix().is_some()
+        | format.base_prefix().is_some()
+        | (format.mantissa_radix() != 10))
+}
+
 // The value of the whole text under a format with a separator that may be invalid, where digits alone stand behind its
 // sign, and no prefix but `0x`, or, without a prefix, decimal digits with a separator before each three.
 #[inline(never)]
@@ -251,7 +270,7 @@ pub(super) fn value_of_groups<T: Integer>(
     ensures answer { IfSome result
         (λ value. complete format.now T.TYPE bytes.now ≡ Ok (T.number value)) }
 {
-    if !is_valid_with_separator(format, separator) {
+    if !format.is_valid() || !has_decimals_alone(format) {
         return None;
     }
     let Ok((is_negative, start)) = sign_of::<T>(bytes, format) else {

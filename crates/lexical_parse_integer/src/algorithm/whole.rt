@@ -13,8 +13,8 @@ use crate::algorithm::plain::faults::{
     answer_after_digits, fault_after_many, place_after_digits, place_after_few,
 };
 use crate::algorithm::plain::{
-    has_forbidden_zero, is_plain, standard_behind_plus, value_behind_plus, value_of_decimal,
-    value_of_plain,
+    has_forbidden_zero, is_decimal, is_plain, standard_behind_plus, value_behind_plus,
+    value_of_decimal, value_of_many, value_of_plain,
 };
 use crate::algorithm::punctuated::{
     is_parted_otherwise, value_behind_head, value_of_groups, value_of_row,
@@ -24,7 +24,8 @@ use lexical_util::format::{self, NumberFormat};
 use lexical_util::num::Integer;
 use lexical_util::result::Result;
 
-// The value under a format with punctuation. Each reader answers in registers: a `Result` goes through memory.
+// The value under a format with punctuation that may be invalid: the readers refuse that, so that a caller tells three kinds
+// apart, the decimal one first. Each reader answers in registers: a `Result` goes through memory.
 #[inline(always)]
 fn value_if_punctuated<T: Integer>(bytes: &[u8], format: &NumberFormat) -> Option<T>
     ensures valid { IfSome result (λ value. IsNone (fault format.now)) }
@@ -47,13 +48,16 @@ pub fn value_for_format<T: Integer>(bytes: &[u8], format: &NumberFormat) -> Opti
     ensures answer { IfSome result
         (λ value. complete format.now T.TYPE bytes.now ≡ Ok (T.number value)) }
 {
-    if !is_plain(format) {
-        return value_if_punctuated::<T>(bytes, format);
-    }
-    if format.mantissa_radix() == 10 {
+    if is_decimal(format) {
         return value_of_decimal::<T>(bytes, format, bytes.len());
     }
-    value_of_plain::<T>(bytes, format)
+    if is_plain(format) {
+        return value_of_plain::<T>(bytes, format);
+    }
+    if !format.is_valid() {
+        return None;
+    }
+    value_if_punctuated::<T>(bytes, format)
 }
 
 // The number that more digits stand for than their type has surely room for, or the fault of such a text.
@@ -161,77 +165,6 @@ pub fn complete_standard<T: Integer>(bytes: &[u8]) -> Result<T>
     }
 }
 
-// The complete answer under a format that may be invalid, for a text that these readers leave.
-#[inline(always)]
-fn complete_unread<T: Integer>(bytes: &[u8], format: &NumberFormat) -> Result<T>
-    ensures { view_of T.number result ≡ complete_if_valid format.now T.TYPE bytes.now }
-{
-    if is_plain(format) && format.mantissa_radix() == 10 {
-        return complete_decimal::<T>(bytes, format);
-    }
-    complete_from_front::<T>(bytes, format)
-}
-
-// The complete answer under a format without punctuation that may be invalid.
-#[inline(always)]
-fn plain_answer<T: Integer>(bytes: &[u8], format: &NumberFormat) -> Result<T>
-    requires { IsPlain format.now }
-    ensures { view_of T.number result ≡ complete_if_valid format.now T.TYPE bytes.now }
-{
-    let is_decimal = format.mantissa_radix() == 10;
-    if is_decimal && bytes.len() <= 16 {
-        return decimal_answer::<T>(bytes, format);
-    }
-    if let Some(value) = value_of_plain::<T>(bytes, format) {
-        return Ok(value);
-    }
-    if is_decimal {
-        return decimal_answer::<T>(bytes, format);
-    }
-    front_answer::<T>(bytes, format)
-}
-
-// A short decimal text is mostly at fault then, and others are read by the reader for the format's kind.
-/// The integer that the whole text stands for under a format that may be invalid, for a text that `value_if_short` has
-/// left: it isn't read as short decimal digits again.
-#[inline(always)]
-pub fn complete_if_valid<T: Integer>(bytes: &[u8], format: &NumberFormat) -> Result<T>
-    ensures { view_of T.number result ≡ complete_if_valid format.now T.TYPE bytes.now }
-{
-    if is_plain(format) {
-        return plain_answer::<T>(bytes, format);
-    }
-    match value_if_punctuated::<T>(bytes, format) {
-        Some(value) => Ok(value),
-        None => complete_from_front::<T>(bytes, format),
-    }
-}
-
-// ---- under a valid format
-
-// The complete answer under a valid format with punctuation, as one with a suffix, or with no separator: the text's head is
-// found once, and what isn't digits alone behind it is read from there. Out of line, to keep callers small.
-#[inline(never)]
-fn complete_punctuated<T: Integer>(bytes: &[u8], format: &NumberFormat) -> Result<T>
-    requires valid { IsNone (fault format.now) }
-    ensures { view_of T.number result ≡ complete format.now T.TYPE bytes.now }
-{
-    let head = head_of::<T>(bytes, format)?;
-    if let Some(value) = value_behind_head::<T>(bytes, format, head) {
-        return Ok(value);
-    }
-    completion::<T>(bytes, front_behind::<T>(bytes, format, head))
-}
-
-// Whether a text would be a short decimal one, if all of it were digits.
-#[inline(always)]
-fn is_short_decimal(bytes: &[u8], format: &NumberFormat) -> bool
-    ensures plain { IsTrue result → IsPlain format.now }
-    ensures decimal { IsTrue result → format.now.mantissa_radix ≡ 10 }
-{
-    is_plain(format) && format.mantissa_radix() == 10 && bytes.len() <= 16
-}
-
 // A function that makes a call for a `Result` clears room for it where it begins. So a value is had first, in registers, and
 // each such call on the way to one stands in a function of its own.
 #[inline(always)]
@@ -258,70 +191,152 @@ fn punctuated_answer<T: Integer>(bytes: &[u8], format: &NumberFormat) -> Result<
     complete_punctuated::<T>(bytes, format)
 }
 
-// The value of a text that isn't a short decimal one: by the reader for the format's kind.
+// The complete answer under a decimal format without punctuation, for a text that `value_if_short` has left: a short one is
+// mostly at fault then, and of a long one the value is had in registers.
 #[inline(always)]
-fn value_by_kind<T: Integer>(bytes: &[u8], format: &NumberFormat) -> Option<T>
-    ensures valid { IfSome result (λ value. IsNone (fault format.now)) }
-    ensures answer { IfSome result
-        (λ value. complete format.now T.TYPE bytes.now ≡ Ok (T.number value)) }
+fn decimal_rest<T: Integer>(bytes: &[u8], format: &NumberFormat) -> Result<T>
+    requires plain { IsPlain format.now }
+    requires decimal { format.now.mantissa_radix ≡ 10 }
+    ensures { view_of T.number result ≡ complete format.now T.TYPE bytes.now }
 {
-    if is_plain(format) {
-        value_of_plain::<T>(bytes, format)
-    } else {
-        value_if_punctuated::<T>(bytes, format)
+    if bytes.len() > 16 {
+        if let Some(value) = value_of_many::<T>(bytes, format) {
+            return Ok(value);
+        }
+    }
+    decimal_answer::<T>(bytes, format)
+}
+
+// The complete answer under a valid format without punctuation.
+#[inline(always)]
+#[tactic(auto, using(crate::proofs::plain::DigitsAlone::valid_answer))]
+fn plain_rest<T: Integer>(bytes: &[u8], format: &NumberFormat) -> Result<T>
+    requires plain { IsPlain format.now }
+    requires valid { IsNone (fault format.now) }
+    ensures { view_of T.number result ≡ complete format.now T.TYPE bytes.now }
+{
+    match value_of_plain::<T>(bytes, format) {
+        Some(value) => Ok(value),
+        None => front_answer::<T>(bytes, format),
     }
 }
 
-// Whether a separator stands in a text so that it is read from its front at once.
+// The complete answer under any other format, valid or not.
 #[inline(always)]
-fn is_left_to_front(bytes: &[u8], format: &NumberFormat) -> bool {
-    match format.digit_separator() {
-        Some(separator) => is_parted_otherwise(bytes, separator),
-        None => false,
+fn punctuated_rest<T: Integer>(bytes: &[u8], format: &NumberFormat) -> Result<T>
+    ensures { view_of T.number result ≡ complete_if_valid format.now T.TYPE bytes.now }
+{
+    match value_if_punctuated::<T>(bytes, format) {
+        Some(value) => Ok(value),
+        None => front_answer::<T>(bytes, format),
+    }
+}
+
+/// The integer that the whole text stands for under a format that may be invalid, for a text that `value_if_short` has
+/// left: it isn't read as short decimal digits again.
+#[inline(always)]
+#[tactic(auto, using(crate::proofs::plain::DigitsAlone::valid_answer))]
+pub fn complete_if_valid<T: Integer>(bytes: &[u8], format: &NumberFormat) -> Result<T>
+    ensures { view_of T.number result ≡ complete_if_valid format.now T.TYPE bytes.now }
+{
+    if is_decimal(format) {
+        return decimal_rest::<T>(bytes, format);
+    }
+    if is_plain(format) {
+        return plain_rest::<T>(bytes, format);
+    }
+    punctuated_rest::<T>(bytes, format)
+}
+
+// ---- under a valid format
+
+// The complete answer under a valid format with punctuation, as one with a suffix, or with no separator: the text's head is
+// found once, and what isn't digits alone behind it is read from there. Out of line, to keep callers small.
+#[inline(never)]
+fn complete_punctuated<T: Integer>(bytes: &[u8], format: &NumberFormat) -> Result<T>
+    requires valid { IsNone (fault format.now) }
+    ensures { view_of T.number result ≡ complete format.now T.TYPE bytes.now }
+{
+    let head = head_of::<T>(bytes, format)?;
+    if let Some(value) = value_behind_head::<T>(bytes, format, head) {
+        return Ok(value);
+    }
+    completion::<T>(bytes, front_behind::<T>(bytes, format, head))
+}
+
+// The complete answer under a valid format with a separator.
+#[inline(always)]
+#[tactic(auto, using(crate::proofs::plain::DigitsAlone::valid_answer))]
+fn separated_rest<T: Integer>(bytes: &[u8], format: &NumberFormat, separator: u8) -> Result<T>
+    requires valid { IsNone (fault format.now) }
+    requires separator { format.now.digit_separator ≡ Some separator }
+    ensures { view_of T.number result ≡ complete format.now T.TYPE bytes.now }
+{
+    if is_parted_otherwise(bytes, separator) {
+        return front_answer::<T>(bytes, format);
+    }
+    match value_of_groups::<T>(bytes, format, separator) {
+        Some(value) => Ok(value),
+        None => front_answer::<T>(bytes, format),
     }
 }
 
 /// The integer that the whole text stands for under a valid format, for a text that `value_if_short` has left: it isn't read
 /// as short decimal digits again. The readers of values stand in the caller's place, as a loop over texts wants.
 #[inline(always)]
-#[tactic(auto, using(crate::proofs::plain::DigitsAlone::valid_answer))]
 pub fn complete_valid<T: Integer>(bytes: &[u8], format: &NumberFormat) -> Result<T>
     requires valid { IsNone (fault format.now) }
     ensures { view_of T.number result ≡ complete format.now T.TYPE bytes.now }
 {
-    if format.base_suffix().is_some() || (!is_plain(format) && format.digit_separator().is_none()) {
-        return punctuated_answer::<T>(bytes, format);
+    if is_decimal(format) {
+        return decimal_rest::<T>(bytes, format);
     }
-    if is_left_to_front(bytes, format) {
-        return front_answer::<T>(bytes, format);
+    if is_plain(format) {
+        return plain_rest::<T>(bytes, format);
     }
-    if is_short_decimal(bytes, format) {
-        return decimal_answer::<T>(bytes, format);
-    }
-    match value_by_kind::<T>(bytes, format) {
-        Some(value) => Ok(value),
-        None => complete_unread::<T>(bytes, format),
+    match format.digit_separator() {
+        Some(separator) if format.base_suffix().is_none() => {
+            separated_rest::<T>(bytes, format, separator)
+        }
+        _ => punctuated_answer::<T>(bytes, format),
     }
 }
 
-// The complete answer under a format without punctuation, for a text that isn't short decimal digits. Out of line, so that
-// these need no stack frame.
+// The complete answer under a decimal format without punctuation, for a text of more than sixteen bytes. This and the next
+// two are out of line, so that their callers need no stack frame.
 #[inline(never)]
+fn complete_many<T: Integer>(bytes: &[u8], format: &NumberFormat) -> Result<T>
+    requires plain { IsPlain format.now }
+    requires decimal { format.now.mantissa_radix ≡ 10 }
+    ensures { view_of T.number result ≡ complete format.now T.TYPE bytes.now }
+{
+    match value_of_many::<T>(bytes, format) {
+        Some(value) => Ok(value),
+        None => complete_decimal::<T>(bytes, format),
+    }
+}
+
+// The complete answer under a valid format of any radix without punctuation.
+#[inline(never)]
+#[tactic(auto, using(crate::proofs::plain::DigitsAlone::valid_answer))]
 fn complete_plain<T: Integer>(bytes: &[u8], format: &NumberFormat) -> Result<T>
-    requires { IsPlain format.now }
-    ensures { view_of T.number result ≡ complete_if_valid format.now T.TYPE bytes.now }
+    requires plain { IsPlain format.now }
+    requires valid { IsNone (fault format.now) }
+    ensures { view_of T.number result ≡ complete format.now T.TYPE bytes.now }
 {
     match value_of_plain::<T>(bytes, format) {
         Some(value) => Ok(value),
-        None => complete_unread::<T>(bytes, format),
+        None => complete_from_front::<T>(bytes, format),
     }
 }
 
-// The same under a format with a separator.
+// The complete answer under a valid format with a separator.
 #[inline(never)]
+#[tactic(auto, using(crate::proofs::plain::DigitsAlone::valid_answer))]
 fn complete_separated<T: Integer>(bytes: &[u8], format: &NumberFormat, separator: u8) -> Result<T>
-    requires { format.now.digit_separator ≡ Some separator }
-    ensures { view_of T.number result ≡ complete_if_valid format.now T.TYPE bytes.now }
+    requires valid { IsNone (fault format.now) }
+    requires separator { format.now.digit_separator ≡ Some separator }
+    ensures { view_of T.number result ≡ complete format.now T.TYPE bytes.now }
 {
     match value_of_groups::<T>(bytes, format, separator) {
         Some(value) => Ok(value),
@@ -329,28 +344,39 @@ fn complete_separated<T: Integer>(bytes: &[u8], format: &NumberFormat, separator
     }
 }
 
+// The complete answer under a valid format with punctuation, by one call.
+#[inline(always)]
+#[tactic(auto, using(crate::proofs::plain::DigitsAlone::valid_answer))]
+fn complete_other<T: Integer>(bytes: &[u8], format: &NumberFormat) -> Result<T>
+    requires valid { IsNone (fault format.now) }
+    ensures { view_of T.number result ≡ complete format.now T.TYPE bytes.now }
+{
+    match format.digit_separator() {
+        Some(separator) if format.base_suffix().is_none() => {
+            if is_parted_otherwise(bytes, separator) {
+                return complete_from_front::<T>(bytes, format);
+            }
+            complete_separated::<T>(bytes, format, separator)
+        }
+        _ => complete_punctuated::<T>(bytes, format),
+    }
+}
+
 /// The integer that the whole text stands for under a valid format, for a text that `value_if_short` has left: by one call
 /// for each kind of format, so that a number which `value_if_short` reads pays for none.
 #[inline(always)]
-#[tactic(auto, using(crate::proofs::plain::DigitsAlone::valid_answer))]
 pub(super) fn complete_by_kind<T: Integer>(bytes: &[u8], format: &NumberFormat) -> Result<T>
     requires valid { IsNone (fault format.now) }
     ensures { view_of T.number result ≡ complete format.now T.TYPE bytes.now }
 {
-    if is_short_decimal(bytes, format) {
-        return complete_decimal::<T>(bytes, format);
+    if is_decimal(format) {
+        if bytes.len() <= 16 {
+            return complete_decimal::<T>(bytes, format);
+        }
+        return complete_many::<T>(bytes, format);
     }
     if is_plain(format) {
         return complete_plain::<T>(bytes, format);
     }
-    if format.base_suffix().is_some() {
-        return complete_punctuated::<T>(bytes, format);
-    }
-    match format.digit_separator() {
-        Some(separator) if is_parted_otherwise(bytes, separator) => {
-            complete_from_front::<T>(bytes, format)
-        }
-        Some(separator) => complete_separated::<T>(bytes, format, separator),
-        None => complete_punctuated::<T>(bytes, format),
-    }
+    complete_other::<T>(bytes, format)
 }

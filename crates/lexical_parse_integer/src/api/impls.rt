@@ -5,7 +5,6 @@ ghost use Rattle.lexical_parse_integer.specs.Grammar.{complete_if_valid, partial
 
 use crate::algorithm::front::partial_from_front;
 use crate::algorithm::plain::{front_if_plain, value_if_short};
-use crate::algorithm::punctuated::validity::fault_of;
 use crate::algorithm::standard_partial;
 use crate::algorithm::whole::{complete_if_valid, complete_standard, value_for_format};
 use crate::api::{FromLexical, FromLexicalWithOptions};
@@ -20,7 +19,7 @@ use lexical_util::result::Result;
 fn partial_if_valid<T: Integer>(bytes: &[u8], format: &NumberFormat) -> Result<(T, usize)>
     ensures { view_of (with_place T.number) result ≡ partial_if_valid format.now T.TYPE bytes.now }
 {
-    match fault_of(format) {
+    match format.error() {
         Some(broken) => Err(broken),
         None => partial_from_front::<T>(bytes, format),
     }

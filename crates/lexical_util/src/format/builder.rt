@@ -2,9 +2,12 @@
 
 ghost use Rattle.std.specs.Prelude.{◌≡◌, ◌↔◌, IsTrue, None};
 ghost use Rattle.lexical_util.specs.Format.{standard};
+ghost use Rattle.lexical_util.specs.Kind.{kind_of};
 ghost use Rattle.lexical_util.specs.Validity.{fault};
 
-use super::{NumberFormat, STANDARD};
+use super::NumberFormat;
+use super::content::{Fields, STANDARD_FIELDS};
+use super::kind::FormatKind;
 use std::marker::Model;
 
 /// A format in the making. It starts as [`STANDARD`]; each setter changes its own field and keeps
@@ -19,7 +22,7 @@ use std::marker::Model;
 /// ```
 #[derive(Debug, Copy, Clone, PartialEq, Eq)]
 pub struct NumberFormatBuilder {
-    format: NumberFormat,
+    fields: Fields,
 }
 
 impl Model for NumberFormatBuilder {
@@ -27,9 +30,9 @@ impl Model for NumberFormatBuilder {
 
     ghost Value = { Format };
 
-    ghost view = { λ a. a.format };
+    ghost view = { λ a. a.fields };
 
-    ghost inverse = { λ a. record { format = a } };
+    ghost inverse = { λ a. record { fields = a } };
 }
 
 impl NumberFormatBuilder {
@@ -38,12 +41,14 @@ impl NumberFormatBuilder {
     pub fn new() -> Self
         ensures { result ≡ standard }
     {
-        NumberFormatBuilder { format: STANDARD }
+        NumberFormatBuilder {
+            fields: STANDARD_FIELDS,
+        }
     }
 
     /// [`STANDARD`] with this radix. Nothing is checked: with a radix that isn't from 2 to 36 the
     /// format is invalid.
-    #[inline]
+    #[inline(always)]
     pub fn from_radix(radix: u8) -> NumberFormat
         ensures { result ≡ record standard { mantissa_radix = radix } }
     {
@@ -65,7 +70,7 @@ impl NumberFormatBuilder {
     pub fn mantissa_radix(mut self, value: u8) -> Self
         ensures { result ≡ record self { mantissa_radix = value } }
     {
-        self.format.mantissa_radix = value;
+        self.fields.mantissa_radix = value;
         self
     }
 
@@ -82,7 +87,7 @@ impl NumberFormatBuilder {
     pub fn digit_separator(mut self, value: Option<u8>) -> Self
         ensures { result ≡ record self { digit_separator = value } }
     {
-        self.format.digit_separator = value;
+        self.fields.digit_separator = value;
         self
     }
 
@@ -92,7 +97,7 @@ impl NumberFormatBuilder {
     pub fn base_prefix(mut self, value: Option<u8>) -> Self
         ensures { result ≡ record self { base_prefix = value } }
     {
-        self.format.base_prefix = value;
+        self.fields.base_prefix = value;
         self
     }
 
@@ -101,7 +106,7 @@ impl NumberFormatBuilder {
     pub fn base_suffix(mut self, value: Option<u8>) -> Self
         ensures { result ≡ record self { base_suffix = value } }
     {
-        self.format.base_suffix = value;
+        self.fields.base_suffix = value;
         self
     }
 
@@ -110,7 +115,7 @@ impl NumberFormatBuilder {
     pub fn case_sensitive_base_prefix(mut self, value: bool) -> Self
         ensures { result ≡ record self { case_sensitive_base_prefix = value } }
     {
-        self.format.case_sensitive_base_prefix = value;
+        self.fields.case_sensitive_base_prefix = value;
         self
     }
 
@@ -119,7 +124,7 @@ impl NumberFormatBuilder {
     pub fn case_sensitive_base_suffix(mut self, value: bool) -> Self
         ensures { result ≡ record self { case_sensitive_base_suffix = value } }
     {
-        self.format.case_sensitive_base_suffix = value;
+        self.fields.case_sensitive_base_suffix = value;
         self
     }
 
@@ -129,7 +134,7 @@ impl NumberFormatBuilder {
     pub fn required_integer_digits(mut self, value: bool) -> Self
         ensures { result ≡ record self { required_integer_digits = value } }
     {
-        self.format.required_integer_digits = value;
+        self.fields.required_integer_digits = value;
         self
     }
 
@@ -139,7 +144,7 @@ impl NumberFormatBuilder {
     pub fn required_mantissa_digits(mut self, value: bool) -> Self
         ensures { result ≡ record self { required_mantissa_digits = value } }
     {
-        self.format.required_mantissa_digits = value;
+        self.fields.required_mantissa_digits = value;
         self
     }
 
@@ -161,7 +166,7 @@ impl NumberFormatBuilder {
     pub fn no_positive_mantissa_sign(mut self, value: bool) -> Self
         ensures { result ≡ record self { no_positive_mantissa_sign = value } }
     {
-        self.format.no_positive_mantissa_sign = value;
+        self.fields.no_positive_mantissa_sign = value;
         self
     }
 
@@ -170,7 +175,7 @@ impl NumberFormatBuilder {
     pub fn required_mantissa_sign(mut self, value: bool) -> Self
         ensures { result ≡ record self { required_mantissa_sign = value } }
     {
-        self.format.required_mantissa_sign = value;
+        self.fields.required_mantissa_sign = value;
         self
     }
 
@@ -179,7 +184,7 @@ impl NumberFormatBuilder {
     pub fn no_integer_leading_zeros(mut self, value: bool) -> Self
         ensures { result ≡ record self { no_integer_leading_zeros = value } }
     {
-        self.format.no_integer_leading_zeros = value;
+        self.fields.no_integer_leading_zeros = value;
         self
     }
 
@@ -220,7 +225,7 @@ impl NumberFormatBuilder {
     pub fn integer_leading_digit_separator(mut self, value: bool) -> Self
         ensures { result ≡ record self { integer_leading_digit_separator = value } }
     {
-        self.format.integer_leading_digit_separator = value;
+        self.fields.integer_leading_digit_separator = value;
         self
     }
 
@@ -229,7 +234,7 @@ impl NumberFormatBuilder {
     pub fn integer_internal_digit_separator(mut self, value: bool) -> Self
         ensures { result ≡ record self { integer_internal_digit_separator = value } }
     {
-        self.format.integer_internal_digit_separator = value;
+        self.fields.integer_internal_digit_separator = value;
         self
     }
 
@@ -238,7 +243,7 @@ impl NumberFormatBuilder {
     pub fn integer_trailing_digit_separator(mut self, value: bool) -> Self
         ensures { result ≡ record self { integer_trailing_digit_separator = value } }
     {
-        self.format.integer_trailing_digit_separator = value;
+        self.fields.integer_trailing_digit_separator = value;
         self
     }
 
@@ -247,7 +252,7 @@ impl NumberFormatBuilder {
     pub fn integer_consecutive_digit_separator(mut self, value: bool) -> Self
         ensures { result ≡ record self { integer_consecutive_digit_separator = value } }
     {
-        self.format.integer_consecutive_digit_separator = value;
+        self.fields.integer_consecutive_digit_separator = value;
         self
     }
 
@@ -266,7 +271,7 @@ impl NumberFormatBuilder {
     pub fn integer_prefix_digit_separator(mut self, value: bool) -> Self
         ensures { result ≡ record self { integer_prefix_digit_separator = value } }
     {
-        self.format.integer_prefix_digit_separator = value;
+        self.fields.integer_prefix_digit_separator = value;
         self
     }
 
@@ -275,7 +280,7 @@ impl NumberFormatBuilder {
     pub fn literal_prefixes(mut self, value: bool) -> Self
         ensures { result ≡ record self { literal_prefixes = value } }
     {
-        self.format.literal_prefixes = value;
+        self.fields.literal_prefixes = value;
         self
     }
 
@@ -294,7 +299,7 @@ impl NumberFormatBuilder {
     pub fn literal_octal_zero(mut self, value: bool) -> Self
         ensures { result ≡ record self { literal_octal_zero = value } }
     {
-        self.format.literal_octal_zero = value;
+        self.fields.literal_octal_zero = value;
         self
     }
 
@@ -303,20 +308,32 @@ impl NumberFormatBuilder {
     pub fn is_valid(&self) -> bool
         ensures { IsTrue result ↔ (fault self.now ≡ None) }
     {
-        self.format.is_valid()
+        self.fields.fault().is_none()
     }
 
     /// The format, valid or not. A parser that takes any format refuses an invalid one with the
     /// fault that `NumberFormat::error` answers.
-    #[inline]
+    #[inline(always)]
     pub fn build_unchecked(&self) -> NumberFormat
         ensures { result ≡ self.now }
     {
-        self.format
+        NumberFormat::of(&self.fields)
+    }
+
+    /// The format, whose kind has to be this one: it isn't found by the fields.
+    #[inline(always)]
+    pub fn build_of_kind(&self, kind: FormatKind) -> NumberFormat
+        requires { kind ≡ kind_of self.now }
+        ensures { result ≡ self.now }
+    {
+        NumberFormat {
+            fields: self.fields,
+            kind,
+        }
     }
 
     /// The format, which has to be valid, as `is_valid` tests.
-    #[inline]
+    #[inline(always)]
     pub fn build_strict(&self) -> NumberFormat
         requires { fault self.now ≡ None }
         ensures { result ≡ self.now }

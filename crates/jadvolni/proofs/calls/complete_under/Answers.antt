@@ -11,11 +11,11 @@ returns-in-Some g c =
     let fields = c.args.fields.now in
     let text = c.args.text.now in
     let type = g.T.Integer.TYPE in
-    let format = c.format.result in
+    let format = c.decimal_format.result in
     let before = g.S.Slot.number c.args.value.now in
     let number = g.T.Integer.number c.in-Some.number in
     let known : are_known fields ≡ true = search rules in
     let sure = if_sure (fault format) (complete format type text) (Ok number) c.in-Some.ensures.valid c.in-Some.ensures.answer in
     c.store.ensures
-    ∙ ap (complete_effect (length text) before) (sure ∙ ap (λ f. complete_if_valid f type text) c.format.ensures)
+    ∙ ap (complete_effect (length text) before) (sure ∙ ap (λ f. complete_if_valid f type text) c.decimal_format.ensures)
     ∙ if_all_known fields before (complete_effect (length text) before (complete_if_valid (format_of fields) type text)) known

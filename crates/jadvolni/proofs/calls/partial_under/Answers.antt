@@ -12,11 +12,11 @@ returns-in-Some g c =
     let fields = c.args.fields.now in
     let text = c.args.text.now in
     let type = g.T.Integer.TYPE in
-    let format = c.format.result in
+    let format = c.decimal_format.result in
     let before = g.S.Slot.number c.args.value.now in
     let found = with_place g.T.Integer.number c.in-Some.found in
     let known : are_known fields ≡ true = search rules in
     let sure = if_sure (fault format) (partial format type text) (Ok found) c.in-Some.ensures.valid c.in-Some.ensures.answer in
     c.give_front.ensures
-    ∙ ap (partial_effect before) (sure ∙ ap (λ f. partial_if_valid f type text) c.format.ensures)
+    ∙ ap (partial_effect before) (sure ∙ ap (λ f. partial_if_valid f type text) c.decimal_format.ensures)
     ∙ if_all_known fields before (partial_effect before (partial_if_valid (format_of fields) type text)) known

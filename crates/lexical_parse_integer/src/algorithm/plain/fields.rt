@@ -3,20 +3,21 @@ ghost use Rattle.std.specs.Prelude.{◌≡◌, ◌<◌, ◌↔◌, IfSome, IsTru
 ghost use Rattle.lexical_parse_integer.specs.Grammar.{complete};
 ghost use Rattle.lexical_parse_integer.specs.Separated.{IsSeparated, field_length};
 
-use crate::algorithm::plain::{behind_minus, front_of_digits, is_plain};
+use crate::algorithm::plain::{behind_minus, front_of_digits};
 use lexical_util::digit::char_to_digit;
-use lexical_util::format::NumberFormat;
+use lexical_util::format::{FormatKind, NumberFormat};
 use lexical_util::num::Integer;
 
 /// Whether `field_in_front` may read the fields between this separator, under this format.
 #[inline(always)]
+#[tactic(auto, using(crate::proofs::plain::KindsOfFormats::plain_decimal))]
 pub fn is_separated(format: &NumberFormat, separator: u8) -> bool
     ensures { IsTrue result ↔ IsSeparated format.now separator }
 {
-    if !is_plain(format) || format.mantissa_radix() != 10 || separator == b'-' {
-        return false;
+    match format.kind() {
+        FormatKind::Decimal => separator != b'-' && char_to_digit(separator, 10).is_none(),
+        _ => false,
     }
-    char_to_digit(separator, 10).is_none()
 }
 
 /// The number of a text's first field and the field's length, where the field is up to twenty-three decimal digits

@@ -1,6 +1,6 @@
 use Rattle.std.proofs.Common.{◌∙◌, arith, inl, inr}
 use Rattle.std.proofs.lemmas.Bool.Decides.{nat_tests}
-use Rattle.lexical_tables.proofs.ZeroRule.{rule_kept, rule_unasked}
+use Rattle.lexical_tables.proofs.numerals.ZeroRule.{rule_kept, rule_unasked}
 use Rattle.lexical_tables.proofs.digit_cells.keeps_zero_rule.Goals as goal
 
 pub returns-then-code-lt-WITH_ZERO_RULE : goal.returns-then-code-lt-WITH_ZERO_RULE

@@ -1,4 +1,4 @@
-use Rattle.std.proofs.Common.{◌∙◌, ◌+◌, ◌-◌, ◌<◌, ◌∷◌, [], ap, arith, cond, drop, length, map, refl, subst, sym, take}
+use Rattle.std.proofs.Common.{◌∙◌, ◌+◌, ◌-◌, ◌<◌, ◌∷◌, [], None, ap, arith, cond, drop, inl, length, map, refl, subst, sym, take}
 use Rattle.std.proofs.lemmas.Bool.Decides.{nat_tests}
 use Rattle.lexical_tables.specs.ByColumn.{AreUsable, answer_at, kinds_of}
 use Rattle.lexical_fields.specs.Fields.{FieldView}
@@ -7,12 +7,13 @@ use Rattle.lexical_tables.specs.Ends.{AreEnds}
 use Rattle.lexical_tables.specs.RowSoFar.{IsOnRow, cells_behind, count_in}
 use Rattle.lexical_tables.specs.Rows.{first_row}
 use Rattle.lexical_tables.proofs.CodeSteps.{codes_put}
-use Rattle.lexical_tables.proofs.ColumnSteps.{after_cell}
+use Rattle.lexical_tables.proofs.ColumnSteps.{after_cell, row_ends}
+use Rattle.lexical_tables.proofs.PassSteps.{end_fine}
 use Rattle.lexical_tables.proofs.PutSteps.{use_put}
 use Rattle.lexical_tables.proofs.pass.read_cells_at_once.Goals as goal
 
 pub returns-then-part-clause-done : goal.returns-then-part-clause-done
-returns-then-part-clause-done g c = λ last start kinds old put.
+returns-then-part-clause-done g c = λ is_done start kinds old put.
     let d = c.args.dialect.now in
     let text = c.args.text.now in
     let left = c.loop-column.left.text.now in
@@ -25,23 +26,13 @@ returns-then-part-clause-done g c = λ last start kinds old put.
     let more : column < count_in d = grind (arith, nat_tests) in
     let at = part.ensures.part.cells start column
     ∙ ap (λ t. cell ∷ cond t [] (cells_behind d row (column + 1) (length text - length (drop (part.result.end + 1) left)))) c.if-part.true in
-    after_cell kinds d c.args.index row old before column _ (c.loop-column.invariant.4 start kinds old put) cell _ at more
-    now (sym (c.if-not-read_coded_cell.ensures.fault refl cell.start)) (c.if-not-read_coded_cell.ensures.targets refl cell.start)
-
-pub returns-then-part-clause-codes : goal.returns-then-part-clause-codes
-returns-then-part-clause-codes g c =
-    let d = c.args.dialect.now in
-    let column = c.loop-column.column in
-    let before = map g.C.TableColumn.target c.loop-column.targets in
-    let cell : FieldView = record { start = 0; text = take c.next_part-part.result.size c.loop-column.left.text.now } in
-    subst (AreCodes d c.args.codes.now) (sym (c.if-not-read_coded_cell.ensures.targets refl 0))
-    (codes_put d c.args.codes.now c.args.index column (answer_at d (kinds_of before) column cell) before c.loop-column.invariant.2)
-
-pub returns-then-part-clause-usable : goal.returns-then-part-clause-usable
-returns-then-part-clause-usable g c =
-    subst (AreUsable (c.args.index + 1)) (sym (c.if-not-read_coded_cell.ensures.targets refl 0))
-    (use_put (c.args.index + 1) c.args.index c.loop-column.column _ (map g.C.TableColumn.target c.loop-column.targets)
-    c.loop-column.invariant.3)
+    let one_more = after_cell kinds d c.args.index row old before column _ (c.loop-column.invariant.4 start kinds old put) cell _ at more
+    now (sym (c.if-not-read_coded_cell.ensures.fault refl cell.start)) (c.if-not-read_coded_cell.ensures.targets refl cell.start) in
+    let returned = sym (ap (λ r. r.lacks_return) (part.ensures.part.row c.if-part.true start))
+    ∙ c.if-ends_wrong.ensures.returned refl c.if-part.true in
+    row_ends kinds d c.args.index row old now (column + 1) [] one_more None (inl refl)
+    (end_fine (count_in d) c.args.index (column + 1) row
+    (sym (c.if-ends_wrong.ensures.count refl c.if-part.true ∙ c.requires.columns)) returned)
 
 pub loop-column-preserved : goal.loop-column-preserved
 loop-column-preserved g c =
@@ -72,5 +63,5 @@ loop-column-preserved g c =
           after_cell kinds d c.args.index row old before column _ (c.loop-column.invariant.4 start kinds old put) cell _ at more
           now (sym (found.fault refl cell.start)) (found.targets refl cell.start),
       omega (arith, c.loop-column.invariant.5),
-      λ low. omega (arith, more, c.requires.columns),
+      omega (arith, more, c.requires.columns),
     )

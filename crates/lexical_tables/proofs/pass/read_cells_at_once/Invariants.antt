@@ -15,7 +15,7 @@ invariant-loop-column g l =
     × GoesOn l.dialect l.index l.text l.fn.from.text.now l.left.text.now (map g.C.TableColumn.target l.initial.targets)
     (map g.C.TableColumn.target l.targets) l.fn.first l.column
     × (l.fn.first ≤ l.column)
-    × (l.fn.first ≤ l.columns → l.column ≤ l.columns)
+    × (l.column ≤ l.columns)
 
 abbrev pub decreases-loop-column : goal.decreases-loop-column
 decreases-loop-column g l = l.coded - l.column

@@ -1,6 +1,6 @@
 use Rattle.std.proofs.Common.{◌≡◌, ◌-◌, None, map}
 use Rattle.lexical_tables.specs.Codes.{AreCodes}
-use Rattle.lexical_tables.specs.Ends.{AreEndsIf}
+use Rattle.lexical_tables.specs.Ends.{AreEnds}
 use Rattle.lexical_tables.proofs.ColumnTables.{IsTablePut}
 use Rattle.lexical_tables.proofs.pass.read_rows.Given as goal
 
@@ -9,7 +9,7 @@ abbrev pub invariant-loop-count : goal.invariant-loop-count
 invariant-loop-count g l =
     IsTablePut l.dialect l.rows l.text (map g.C.TableColumn.target l.initial.targets) (map g.C.TableColumn.target l.targets)
     l.count l.left.text.now
-    × AreEndsIf l.marked l.dialect.has_quotes l.left.text.now l.left.marks
+    × AreEnds l.dialect.has_quotes l.separator l.left.text.now l.left.marks
     × AreCodes l.dialect l.codes (map g.C.TableColumn.target l.targets)
     × (l.wrong ≡ None)
 

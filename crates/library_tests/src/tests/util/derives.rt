@@ -15,7 +15,6 @@ fn are_equal_faults(fault: Error, other: Error) -> bool
     fault == other
 }
 
-#[tactic(auto, using(lexical_util::proofs::Same::format_eq_decides))]
 fn are_equal_formats(format: &NumberFormat, other: &NumberFormat) -> bool
     ensures { IsTrue result ↔ (format.now ≡ other.now) }
 {

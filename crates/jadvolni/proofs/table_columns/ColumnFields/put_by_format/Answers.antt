@@ -15,11 +15,14 @@ none_is : (found : Option Error) → found ≡ None → IsNone found
 none_is None is = refl
 none_is (Some error) is = absurd cc
 
+pub valid_format-format-requires : goal.valid_format-format-requires
+valid_format-format-requires c = valid_integers c.args.self.now (c.args.row + 1) _ (sym c.number_type.ensures ∙ c.in-Some.is) c.requires.integers c.requires.usable
+
 pub put_cell-requires : goal.put_cell-requires
 put_cell-requires c =
     let column = c.args.self.now in
     record {
-      valid = none_is (fault c.format-format.result) (ap fault c.format-format.ensures
+      valid = none_is (fault c.valid_format-format.result) (ap fault c.valid_format-format.ensures
           ∙ valid_integers column (c.args.row + 1) _ (sym c.number_type.ensures ∙ c.in-Some.is) c.requires.integers c.requires.usable);
       room = room_for column c.args.row c.requires.usable;
       front = c.requires.front;
@@ -30,9 +33,9 @@ pub returns : goal.returns
 returns c =
     let text : FieldView = record { start = c.args.start; text = c.args.text.now } in
     let column = c.args.self.now in
-    let format = c.format-format.result in
+    let format = c.valid_format-format.result in
     let same : (type : IntegerType) → view_of Number (field_answer format type text)
-    ≡ answer_by (reading_of column.description type) text = λ type. ap (λ it. view_of Number (field_answer it type text)) c.format-format.ensures
+    ≡ answer_by (reading_of column.description type) text = λ type. ap (λ it. view_of Number (field_answer it type text)) c.valid_format-format.ensures
     ∙ integer_answer column.description type text c.requires.integers in
     record {
       fault =

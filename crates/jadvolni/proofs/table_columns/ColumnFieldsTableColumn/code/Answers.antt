@@ -11,4 +11,4 @@ returns c =
     format_said c.args.self.now c.in-Some.numbers c.standard_code-code.result (sym c.number_type.ensures ∙ c.in-Some.is)
     integers c.standard_code-code.ensures.column c.standard_code-code.ensures.bits (IsCode c.under_format.result)
     (λ target same bits. c.under_format.ensures target
-    (same ∙ ap (λ format. Integers format (coded_type c.standard_code-code.result)) (sym c.format.ensures)) bits)
+    (same ∙ ap (λ format. Integers format (coded_type c.standard_code-code.result)) (sym c.decimal_format.ensures)) bits)

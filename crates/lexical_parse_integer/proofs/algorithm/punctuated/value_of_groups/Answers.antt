@@ -8,8 +8,8 @@ use Rattle.lexical_parse_integer.proofs.algorithm.punctuated.value_of_groups.Goa
 
 pub value_of_threes-requires-clause-no_digit : goal.value_of_threes-requires-clause-no_digit
 value_of_threes-requires-clause-no_digit g c =
-    let told = c.if-not-is_valid_with_separator.ensures in
-    let fit = fits c.args.format.now (valid_from _ (told.valid refl)) in
+    let told = c.if-not-has_decimals_alone.ensures in
+    let fit = fits c.args.format.now (valid_from _ (c.is_valid.ensures.0 c.if-not-is_valid.false)) in
     subst (λ (r : ℕ). digit r c.args.separator ≡ None) (told.decimal refl) (fit.separator c.args.separator c.requires)
 
 pub value_of_threes-requires-clause-minus : goal.value_of_threes-requires-clause-minus
@@ -17,8 +17,7 @@ value_of_threes-requires-clause-minus g c = head_signed _ _ c.args.bytes.now _ c
 
 pub returns-clause-answer : goal.returns-clause-answer
 returns-clause-answer g c =
-    let told = c.if-not-is_valid_with_separator.ensures in
-    let valid : IsNone (fault c.args.format.now) = valid_from _ (told.valid refl) in
+    let valid : IsNone (fault c.args.format.now) = valid_from _ (c.is_valid.ensures.0 c.if-not-is_valid.false) in
     let rule = sym c.keeps_rule_behind.ensures ∙ c.if-not-keeps_rule_behind.false in
     if_both c.value_of_threes.result
     (λ v grouped worth. groups_read _ _ c.args.bytes.now _ _ 10 valid c.in_ok-head.ensures c.if-head-ne10.false c.if-bytes-head.false rule grouped worth)

@@ -1,0 +1,173 @@
+//! Amounts that are read at once: digits around a point whose place is known by how many digits stand behind it.
+
+ghost use Rattle.std.specs.Prelude.{◌≡◌, ◌+◌, ◌-◌, ◌*◌, ◌<◌, ◌≤◌, ◌^◌, ◌++◌, ◌∷◌, [], IfSome, IsTrue, length, slice_index, take};
+ghost use Rattle.lexical_digits.specs.WrittenNumbers.{WritesDecimal};
+ghost use Rattle.lexical_fixed.specs.Quick.{without};
+ghost use Rattle.lexical_tables.specs.Amounts.{IsAmount, IsBehindPoint, IsQuick, without_point};
+
+use lexical_fields::number_to_12;
+use lexical_fixed::FixedFormat;
+use lexical_parse_integer::laws::grammar::front_digits;
+use std::simd::prelude::*;
+
+// Row n has the places of sixteen bytes but for n. The last lane, of 128, is made 0.
+static PLACES: [[u8; 16]; 13] = [
+    [1, 2, 3, 4, 5, 6, 7, 8, 9, 10, 11, 12, 13, 14, 15, 128],
+    [0, 2, 3, 4, 5, 6, 7, 8, 9, 10, 11, 12, 13, 14, 15, 128],
+    [0, 1, 3, 4, 5, 6, 7, 8, 9, 10, 11, 12, 13, 14, 15, 128],
+    [0, 1, 2, 4, 5, 6, 7, 8, 9, 10, 11, 12, 13, 14, 15, 128],
+    [0, 1, 2, 3, 5, 6, 7, 8, 9, 10, 11, 12, 13, 14, 15, 128],
+    [0, 1, 2, 3, 4, 6, 7, 8, 9, 10, 11, 12, 13, 14, 15, 128],
+    [0, 1, 2, 3, 4, 5, 7, 8, 9, 10, 11, 12, 13, 14, 15, 128],
+    [0, 1, 2, 3, 4, 5, 6, 8, 9, 10, 11, 12, 13, 14, 15, 128],
+    [0, 1, 2, 3, 4, 5, 6, 7, 9, 10, 11, 12, 13, 14, 15, 128],
+    [0, 1, 2, 3, 4, 5, 6, 7, 8, 10, 11, 12, 13, 14, 15, 128],
+    [0, 1, 2, 3, 4, 5, 6, 7, 8, 9, 11, 12, 13, 14, 15, 128],
+    [0, 1, 2, 3, 4, 5, 6, 7, 8, 9, 10, 12, 13, 14, 15, 128],
+    [0, 1, 2, 3, 4, 5, 6, 7, 8, 9, 10, 11, 13, 14, 15, 128],
+];
+
+static POWERS: [u64; 7] = [1, 10, 100, 1_000, 10_000, 100_000, 1_000_000];
+
+// A power of ten.
+#[inline(always)]
+fn power_of_ten(exponent: usize) -> u64
+    requires { exponent ≤ 6 }
+    ensures value { result ≡ 10 ^ exponent }
+    ensures small { result ≤ 10 ^ 6 }
+{
+    POWERS[exponent]
+}
+
+// The first bytes of a text but for the one at a place.
+#[inline(always)]
+fn bytes_without(text: &[u8], place: usize) -> [u8; 16]
+    requires few { place < 13 }
+    requires room { 16 ≤ length text.now }
+    ensures { result ≡ take 15 (without place text.now) ++ 0 ∷ [] }
+{
+    u8x16::from_slice(text)
+        .swizzle_dyn(u8x16::from_array(PLACES[place]))
+        .to_array()
+}
+
+// The number of a text's first bytes, so many, but for the one at a place, where they are digits.
+#[inline(always)]
+fn number_around(text: &[u8], count: usize, place: usize) -> Option<u64>
+    requires few { count ≤ 13 }
+    requires within { place < count }
+    requires room { 16 ≤ length text.now }
+    ensures writes { IfSome result
+        (λ number. WritesDecimal 0 (without place (take count text.now)) number) }
+    ensures small { IfSome result (λ number. number < 10 ^ 12) }
+{
+    number_to_12(&bytes_without(text, place), count - 1)
+}
+
+// The number of a text's first bytes, so many, but for the point, which has so many behind it.
+#[inline(always)]
+fn number_written(text: &[u8], count: usize, behind: usize) -> Option<u64>
+    requires few { count ≤ 13 }
+    requires room { 16 ≤ length text.now }
+    requires within { 1 ≤ behind → behind + 2 ≤ count }
+    ensures writes { IfSome result
+        (λ number. WritesDecimal 0 (without_point behind (take count text.now)) number) }
+    ensures small { IfSome result (λ number. number < 10 ^ 12) }
+{
+    if behind > 0 {
+        return number_around(text, count, count - 1 - behind);
+    }
+    if count > 12 {
+        return None;
+    }
+    number_to_12(text, count)
+}
+
+// Whether the point stands in a text's first bytes, so many, with so many behind it and a byte before it.
+#[inline(always)]
+fn stands_before(text: &[u8], count: usize, point: u8, behind: usize) -> bool
+    requires within { count ≤ length text.now }
+    requires few { behind ≤ 6 }
+    ensures { IsTrue result → (behind + 2 ≤ count)
+        × (slice_index text.now (count - 1 - behind) ≡ point) }
+{
+    count >= behind + 2 && text[count - 1 - behind] == point
+}
+
+// How many of a text's first bytes, so many, stand behind the point: as many as there are places, or fewer where that is
+// taken, and none where no point is found.
+#[inline(always)]
+fn count_behind(
+    text: &[u8],
+    count: usize,
+    point: u8,
+    places: usize,
+    takes_fewer: bool,
+) -> Option<usize>
+    requires within { count ≤ length text.now }
+    requires some { 1 ≤ places }
+    requires few { places ≤ 6 }
+    ensures { IfSome result
+        (λ behind. IsBehindPoint point places takes_fewer (take count text.now) behind) }
+{
+    let mut behind = places;
+    while behind > 0 {
+        if stands_before(text, count, point, behind) {
+            return Some(behind);
+        }
+        if !takes_fewer {
+            return None;
+        }
+        behind -= 1;
+    }
+    Some(0)
+}
+
+/// The units of the last place that a text's first bytes, so many, stand for, and whether a minus stands in front, where they
+/// are up to twelve decimal digits alone or behind a minus, and among them the point with all of one to six places behind it;
+/// or fewer, or none and no point, where that is taken. `None` says nothing of them. Seventeen bytes have to follow them.
+///
+/// It is for a [`TableColumn`](crate::TableColumn) of one's own, in its `read_amount`.
+#[inline(always)]
+pub fn units_of_front(
+    text: &[u8],
+    size: usize,
+    point: u8,
+    places: usize,
+    takes_fewer: bool,
+) -> Option<(bool, u64)>
+    requires some { 1 ≤ places }
+    requires few { places ≤ 6 }
+    requires room { size + 17 ≤ length text.now }
+    ensures stands { IfSome result (λ found. IsAmount point places takes_fewer
+        found.0 found.1 (take size text.now)) }
+    ensures small { IfSome result (λ found. found.1 < 2 ^ 63) }
+{
+    // The law by which the front has a digit.
+    front_digits();
+    let is_negative = text[0] == b'-';
+    let digits = &text[usize::from(is_negative)..];
+    let count = size.wrapping_sub(usize::from(is_negative));
+    if count.wrapping_sub(1) > 12 {
+        return None;
+    }
+    let behind = count_behind(digits, count, point, places, takes_fewer)?;
+    let number = number_written(digits, count, behind)?;
+    Some((is_negative, number * power_of_ten(places - behind)))
+}
+
+/// Whether amounts under a description are read by [`units_of_front`]: it has one to six places, its point is no quote, and its
+/// integer part has no separator, asks for no sign and lets zeros stand in front.
+#[inline]
+pub fn is_quick(format: &FixedFormat) -> bool
+    ensures { IsTrue result → IsQuick format.now }
+{
+    let integer = format.integer();
+    if integer.digit_separator().is_some() || integer.required_mantissa_sign() {
+        return false;
+    }
+    if integer.no_integer_leading_zeros() || format.point() == b'"' {
+        return false;
+    }
+    format.places() >= 1 && format.places() <= 6
+}
