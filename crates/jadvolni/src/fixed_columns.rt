@@ -1,7 +1,7 @@
 //! The columns of a table that have fixed-point numbers.
 
 ghost use Rattle.std.specs.Prelude.{◌≡◌, ◌≢◌, ◌+◌, ◌<◌, ◌≤◌, ◌^◌, ℕ, IsTrue, None, false, length, take, option_map};
-ghost use Rattle.lexical_tables.specs.Amounts.{HasAmounts, IsAmountText};
+ghost use Rattle.lexical_tables.specs.Amounts.{HasAmounts, HasAmountsIfFixed, IsAmountText};
 ghost use Rattle.lexical_tables.specs.ByColumn.{IsUsable};
 ghost use Rattle.lexical_tables.specs.Targets.{keeps_text, text_fault};
 ghost use Rattle.jadvolni.specs.Fixed.{fixed_of};
@@ -39,10 +39,11 @@ impl ColumnFields<'_> {
         is_quick(&self.description.plain())
     }
 
-    // Puts the amount of a text's first bytes, so many, into a row's place, where it is had at once.
+    // Puts the amount of a text's first bytes, so many, into a row's place, where it is had at once. A column of fixed-point
+    // numbers has to have amounts.
     #[inline(always)]
     pub(crate) fn put_amount(&mut self, row: usize, ahead: &[u8], size: usize) -> bool
-        requires amounts { HasAmounts (target_of self.old) }
+        requires amounts { HasAmountsIfFixed (target_of self.old) }
         requires usable { IsUsable (row + 1) (target_of self.old) }
         requires room { size + 17 ≤ length ahead.now }
         ensures bytes { IsTrue result → IsAmountText (take size ahead.now) }
@@ -53,6 +54,9 @@ impl ColumnFields<'_> {
             (target_of self.old) }
         ensures kept { result ≡ false → target_of self.new ≡ target_of self.old }
     {
+        if self.description.places == 0 {
+            return false;
+        }
         let Some(numbers) = self.arrays.number_type() else {
             return false;
         };

@@ -4,7 +4,7 @@ use Rattle.std.proofs.lemmas.List.{length-map}
 use Rattle.std.specs.Prelude.{is_some, option_map, slice_index}
 use Rattle.lexical_tables.specs.Readings.{FixedPoints, Integers, Reading, Texts, Value, keeps_texts}
 use Rattle.lexical_tables.specs.ByColumn.{kind_of, kinds_of, put_read_at, put_row}
-use Rattle.lexical_tables.specs.Amounts.{AreAmounts, HasAmounts, IsAmountsIn}
+use Rattle.lexical_tables.specs.Amounts.{AreAmounts, AreAmountsIfFixed, HasAmounts, HasAmountsIfFixed, IsAmountsIn}
 use Rattle.lexical_tables.specs.Cells.{Kind, ends_in_digit}
 use Rattle.lexical_tables.specs.Codes.{AreCoded, AreCodes, IsCode, IsCodeIn, IsReadAs, has_coded_bits}
 use Rattle.lexical_tables.specs.Targets.{TargetView, has_bits, has_numbers, keeps_text}
@@ -130,6 +130,16 @@ amounts_numbers Texts are = absurd are
 amounts_have : (target : Option TargetView) → HasAmounts target → has_numbers target ≡ true
 amounts_have None has = absurd has
 amounts_have (Some target) has = amounts_numbers target.reading has
+
+reading_if_fixed : (reading : Reading) → AreAmounts reading → AreAmountsIfFixed reading
+reading_if_fixed (Integers format type) are = absurd are
+reading_if_fixed (FixedPoints fixed type) are = are
+reading_if_fixed Texts are = absurd are
+
+-- a column that has amounts has no other fixed-point numbers
+pub amounts_if_fixed : (target : Option TargetView) → HasAmounts target → HasAmountsIfFixed target
+amounts_if_fixed None has = absurd has
+amounts_if_fixed (Some target) has = reading_if_fixed target.reading has
 
 -- a column of either code has numbers
 pub numbers_said : (dialect : Dialect) (code : ℕ) (target : Option TargetView) → IsCodeIn dialect code target

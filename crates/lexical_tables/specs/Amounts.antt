@@ -1,5 +1,5 @@
 -- Amounts that are read at once: fixed-point numbers of few places, with all of them or fewer.
-use Rattle.std.specs.Prelude.{◌≡◌, ◌≢◌, ◌+◌, ◌-◌, ◌<◌, ◌≤◌, ◌==◌, ℕ, Bool, false, true, if◌then◌else◌, IsTrue, List, length, slice_index, Ok, Option, Some, None}
+use Rattle.std.specs.Prelude.{◌≡◌, ◌≢◌, ◌+◌, ◌-◌, ◌<◌, ◌≤◌, ◌==◌, ℕ, Bool, false, true, if◌then◌else◌, IsTrue, List, length, slice_index, Ok, Option, Some, None, ⊤}
 use Rattle.lexical_digits.specs.Value.{with_sign}
 use Rattle.lexical_util.specs.Number.{IntegerType, IsNumber}
 use Rattle.lexical_fixed.specs.Fixed.{Fixed}
@@ -30,6 +30,17 @@ AreAmounts Texts = ⊥
 abbrev pub HasAmounts : Option TargetView → Type 0
 HasAmounts None = ⊥
 HasAmounts (Some target) = AreAmounts target.reading
+
+-- cells that are read as fixed-point numbers are such amounts
+abbrev pub AreAmountsIfFixed : Reading → Type 0
+AreAmountsIfFixed (Integers format type) = ⊤
+AreAmountsIfFixed (FixedPoints fixed type) = IsQuick fixed
+AreAmountsIfFixed Texts = ⊤
+
+-- a column of fixed-point numbers has such amounts
+abbrev pub HasAmountsIfFixed : Option TargetView → Type 0
+HasAmountsIfFixed None = ⊤
+HasAmountsIfFixed (Some target) = AreAmountsIfFixed target.reading
 
 -- A text with a digit at its end, and no quote in it.
 pub record IsAmountText (text : List ℕ) : Type 0 where

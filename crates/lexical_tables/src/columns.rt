@@ -138,7 +138,7 @@ impl TableColumn for Column<'_> {
     fn read_amount(&mut self, row: usize, ahead: &[u8], size: usize) -> bool {
         match self {
             Column::FixedPoints(target) => target.read_amount(row, ahead, size),
-            Column::Unread | Column::Integers(_) | Column::Texts(_) => unreachable!(),
+            Column::Unread | Column::Integers(_) | Column::Texts(_) => false,
         }
     }
 

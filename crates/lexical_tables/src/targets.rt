@@ -6,7 +6,7 @@ ghost use Rattle.lexical_util.specs.Format.{standard};
 ghost use Rattle.lexical_util.specs.Number.{IsNumber};
 ghost use Rattle.lexical_util.specs.Validity.{fault};
 ghost use Rattle.lexical_fields.specs.ReadFields.{field_answer};
-ghost use Rattle.lexical_tables.specs.Amounts.{HasAmounts, IsAmountText};
+ghost use Rattle.lexical_tables.specs.Amounts.{HasAmounts, HasAmountsIfFixed, IsAmountText};
 ghost use Rattle.lexical_tables.specs.ByColumn.{IsUsable};
 ghost use Rattle.lexical_tables.specs.Codes.{IsCode, IsReadAs, coded_type};
 ghost use Rattle.lexical_tables.specs.Readings.{Number, Text};
@@ -223,9 +223,10 @@ pub trait TableColumn {
         false
     }
 
-    /// Does what `read_at_once` does, of an amount that [`units_of_front`](crate::units_of_front) has. By default it puts none.
+    /// Does what `read_at_once` does, of an amount that [`units_of_front`](crate::units_of_front) has. A column of fixed-point
+    /// numbers is asked only if it says that it has amounts. By default it puts none.
     fn read_amount(&mut self, row: usize, ahead: &[u8], size: usize) -> bool
-        requires amounts { HasAmounts (target self.old) }
+        requires amounts { HasAmountsIfFixed (target self.old) }
         requires usable { IsUsable (row + 1) (target self.old) }
         requires room { size + 17 ≤ length ahead.now }
         ensures bytes { IsTrue result → IsAmountText (take size ahead.now) }

@@ -1,5 +1,10 @@
+use Rattle.lexical_tables.proofs.CodeSteps.{amounts_if_fixed}
 use Rattle.lexical_tables.proofs.numerals.AmountCells.{amount_put}
 use Rattle.lexical_tables.proofs.digit_cells.read_amount.Goals as goal
+
+pub read_amount-requires-clause-amounts : goal.read_amount-requires-clause-amounts
+read_amount-requires-clause-amounts g c =
+    amounts_if_fixed (g.C.TableColumn.target c.args.target.now) c.requires.amounts.column
 
 pub returns-clause-fault : goal.returns-clause-fault
 returns-clause-fault g c = λ did start.

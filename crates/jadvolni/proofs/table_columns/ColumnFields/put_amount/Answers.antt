@@ -1,4 +1,5 @@
-use Rattle.std.proofs.Common.{◌≡◌, ◌∙◌, ◌+◌, Ok, ap, arith, false, refl, sym, take}
+use Rattle.std.proofs.Common.{◌≡◌, ◌≢◌, ◌∙◌, ◌+◌, Ok, ap, arith, false, refl, sym, take}
+use Rattle.std.proofs.lemmas.Bool.Decides.{nat_tests}
 use Rattle.std.specs.Prelude.{IsTrue}
 use Rattle.lexical_util.specs.Number.{IntegerType}
 use Rattle.lexical_digits.specs.Value.{with_sign}
@@ -12,13 +13,15 @@ use Rattle.lexical_tables.specs.Targets.{keeps_text}
 use Rattle.jadvolni.specs.Arrays.{type_named}
 use Rattle.jadvolni.specs.Fixed.{fixed_of}
 use Rattle.jadvolni.specs.Tables.{reading_of, target_of}
-use Rattle.jadvolni.proofs.ColumnAmounts.{amounts_said}
+use Rattle.jadvolni.proofs.ColumnAmounts.{quick_there}
 use Rattle.jadvolni.proofs.ColumnNumbers.{fault_there, fixed_point_answer, kept_there, no_texts_there, put_answered, put_there, room_for, valid_fixed}
 use Rattle.jadvolni.proofs.table_columns.ColumnFields.put_amount.Goals as goal
 
 pub units_of_front-requires : goal.units_of_front-requires
 units_of_front-requires c =
-    let quick = (amounts_said c.args.self.now c.requires.amounts).quick in
+    let above : c.args.self.now.description.places ≢ 0 = grind (arith, nat_tests) in
+    let type_is = sym c.number_type.ensures ∙ c.in-Some.is in
+    let quick = quick_there c.args.self.now c.in-Some.numbers type_is above c.requires.amounts in
     let places = c.places.ensures ∙ ap (λ (it : Fixed). it.places) c.plain-format.ensures in
     record {
       some = omega (arith, places, quick.some);
@@ -32,9 +35,10 @@ put_coded-requires-clause-room c = room_for c.args.self.now c.args.row c.require
 pub returns : goal.returns
 returns c =
     let column = c.args.self.now in
-    let says = amounts_said column c.requires.amounts in
     let format = fixed_of column.description in
+    let above : column.description.places ≢ 0 = grind (arith, nat_tests) in
     let type_is = sym c.number_type.ensures ∙ c.in-Some.is in
+    let quick = quick_there column c.in-Some.numbers type_is above c.requires.amounts in
     let numbers : keeps_text (target_of column) ≡ false = no_texts_there column c.in-Some.numbers type_is in
     let point = c.point.ensures ∙ ap (λ (it : Fixed). it.point) c.plain-format.ensures in
     let places = c.places.ensures ∙ ap (λ (it : Fixed). it.places) c.plain-format.ensures in
@@ -44,12 +48,12 @@ returns c =
     let number = with_sign c.in-Some-units_of_front.is_negative c.in-Some-units_of_front.units in
     let stands : IsTrue c.put_coded.result
     → complete_fixed format (type_named c.in-Some.numbers) (take c.args.size c.args.ahead.now) ≡ Ok number = λ did. amount.stands format (type_named c.in-Some.numbers)
-    (valid_fixed column (c.args.row + 1) c.in-Some.numbers type_is says.places c.requires.usable) says.quick.bare
+    (valid_fixed column (c.args.row + 1) c.in-Some.numbers type_is above c.requires.usable) quick.bare
     (sym point) (sym places) (sym fewer) (put.fits did) (put.minus did) in
     let same : (text : FieldView) (type : IntegerType) → view_of Number (fixed_answer format type text)
-    ≡ answer_by (reading_of column.description type) text = λ text type. fixed_point_answer column.description type text says.places in
+    ≡ answer_by (reading_of column.description type) text = λ text type. fixed_point_answer column.description type text above in
     record {
-      bytes = λ did. amount.bytes (λ is. says.quick.point (sym point ∙ is));
+      bytes = λ did. amount.bytes (λ is. quick.point (sym point ∙ is));
       fault = λ did start.
           let text : FieldView = record { start = start; text = take c.args.size c.args.ahead.now } in
           let both = put_answered column.arrays c.in-Some.numbers c.args.row number (λ type. fixed_answer format type text) type_is
