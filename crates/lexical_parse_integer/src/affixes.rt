@@ -56,15 +56,13 @@ fn literal_radix(is_case_sensitive: bool, byte: Option<u8>) -> Option<u32>
     ensures { result ≡ literal_radix is_case_sensitive byte }
 {
     let byte = byte?;
-    let letter = if !is_case_sensitive && byte >= b'A' && byte <= b'Z' {
-        byte + 32
-    } else {
-        byte
-    };
-    match letter {
+    match byte {
         b'x' => Some(16),
         b'o' => Some(8),
         b'b' => Some(2),
+        b'X' if !is_case_sensitive => Some(16),
+        b'O' if !is_case_sensitive => Some(8),
+        b'B' if !is_case_sensitive => Some(2),
         _ => None,
     }
 }

@@ -11,7 +11,7 @@ use Rattle.lexical_util.specs.Number.{HasRoom, IntegerType, is_number, mul_add}
 use Rattle.lexical_util.specs.Validity.{fault}
 use Rattle.lexical_parse_integer.specs.Affixes.{bare_radix, octal_zero_at, numeral_stop, prefix_radix, suffix_at}
 use Rattle.lexical_parse_integer.specs.CursorView.{CursorView, IsSound, ReachesEnd, TakesDigit}
-use Rattle.lexical_parse_integer.specs.Grammar.{digits_required, fault_if, first_fault_or, partial, range_error, range_fault, zero_fault}
+use Rattle.lexical_parse_integer.specs.Grammar.{complete, digits_required, fault_if, first_fault_or, partial, range_error, range_fault, zero_fault}
 use Rattle.lexical_parse_integer.specs.Head.{Head, head_after, head_behind, head_of, sign, chooses_radix}
 use Rattle.lexical_parse_integer.specs.Numeral.{Numeral, digit_count, numeral_in, numeral_value, numeral_behind}
 use Rattle.lexical_parse_integer.specs.Reading.{MovesOn, IsRead, Reads, ReadsAll, ReadsNumeral, view_at}
@@ -27,7 +27,7 @@ use Rattle.lexical_parse_integer.proofs.reading.DigitLoop.{reads_end, reads_leav
 use Rattle.lexical_parse_integer.proofs.reading.FirstDigit.{few_no_fault, leading_zeros, no_digit_no_zeros, other_first}
 use Rattle.lexical_parse_integer.proofs.reading.NumeralSteps.{all_found, digit_found, places_count}
 use Rattle.lexical_parse_integer.proofs.reading.OctalZeros.{bare_own, octal_asked}
-use Rattle.lexical_parse_integer.proofs.reading.ParserAnswers.{fault_goes_part, sign_short}
+use Rattle.lexical_parse_integer.proofs.reading.ParserAnswers.{fault_completes, fault_goes_part, sign_short}
 use Rattle.lexical_parse_integer.proofs.reading.Soundness.{IsSound-digit, prefix_own, prefix_within, reaches_found, separator_no_digit, suffix_no_digit, suffix_no_separator, takes_found}
 use Rattle.lexical_parse_integer.proofs.reading.UntestedDigits.{joins_digit}
 use Rattle.lexical_parse_integer.proofs.theorems.CompleteByPartial.{sign_within}
@@ -209,6 +209,11 @@ front_answer f t text value v b r told =
 pub prefix_answer : (f : Format) (t : IntegerType) (text : List ℕ) (h : Head) → head_of f t text ≡ Ok h → true ≡ (h.is_prefixed && (h.start == length text)) → partial f t text ≡ Err (Empty (length text))
 prefix_answer f t text h head alone =
     fault_goes_part f t text h (Empty (length text)) head
+    (ap (λ b. option_or (cond b (Some (Empty (length text))) None) (option_or (zero_fault f (chooses_radix h) (numeral_behind f text h)) (range_fault t h.is_negative (numeral_behind f text h)))) (sym alone))
+
+pub prefix_completes : (f : Format) (t : IntegerType) (text : List ℕ) (h : Head) → head_of f t text ≡ Ok h → true ≡ (h.is_prefixed && (h.start == length text)) → complete f t text ≡ Err (Empty (length text))
+prefix_completes f t text h head alone =
+    fault_completes f t text h (Empty (length text)) head
     (ap (λ b. option_or (cond b (Some (Empty (length text))) None) (option_or (zero_fault f (chooses_radix h) (numeral_behind f text h)) (range_fault t h.is_negative (numeral_behind f text h)))) (sym alone))
 
 -- the fault of a numeral

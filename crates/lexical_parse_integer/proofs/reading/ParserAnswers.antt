@@ -252,7 +252,7 @@ sign_goes_part f t text e h = rw h refl
 abbrev pub common_fault : Format → IntegerType → List ℕ → Head → Option Error
 common_fault f t text h = option_or (prefix_fault text h) (option_or (zero_fault f (chooses_radix h) (numeral_behind f text h)) (range_fault t h.is_negative (numeral_behind f text h)))
 
-fault_completes : (f : Format) (t : IntegerType) (text : List ℕ) (h : Head) (e : Error) → head_of f t text ≡ Ok h → common_fault f t text h ≡ Some e → complete f t text ≡ Err e
+pub fault_completes : (f : Format) (t : IntegerType) (text : List ℕ) (h : Head) (e : Error) → head_of f t text ≡ Ok h → common_fault f t text h ≡ Some e → complete f t text ≡ Err e
 unfolding complete
 fault_completes f t text h e is fault = rw is (first_told (prefix_fault text h) (zero_fault f (chooses_radix h) (numeral_behind f text h)) (range_fault t h.is_negative (numeral_behind f text h)) _ _ e fault)
 

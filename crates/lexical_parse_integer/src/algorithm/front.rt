@@ -8,7 +8,7 @@ ghost use Rattle.lexical_util.specs.declared.error.Error.TheVariants.{InvalidLea
 ghost use Rattle.lexical_parse_integer.specs.Affixes.{suffix_at};
 ghost use Rattle.lexical_parse_integer.specs.Answer.{view_of, with_place};
 ghost use Rattle.lexical_parse_integer.specs.CursorView.{IsSound};
-ghost use Rattle.lexical_parse_integer.specs.Grammar.{complete_if_valid, digits_required, partial, range_fault, zero_fault};
+ghost use Rattle.lexical_parse_integer.specs.Grammar.{complete, complete_if_valid, digits_required, partial, range_fault, zero_fault};
 ghost use Rattle.lexical_parse_integer.specs.Head.{head_of, sign};
 ghost use Rattle.lexical_parse_integer.specs.Laws.{completion_of};
 ghost use Rattle.lexical_parse_integer.specs.Numeral.{numeral_in};
@@ -131,7 +131,7 @@ pub(crate) fn head_of<T: Integer>(bytes: &[u8], format: &NumberFormat) -> Result
 
 // Whether a prefix is all that there is.
 #[inline(always)]
-fn is_prefix_alone(bytes: &[u8], head: Head) -> bool
+pub(super) fn is_prefix_alone(bytes: &[u8], head: Head) -> bool
     ensures { result ≡ (head.is_prefixed && (head.start == length bytes.now)) }
 {
     head.is_prefixed && head.start == bytes.len()
@@ -357,6 +357,27 @@ pub(super) fn completion<T: Integer>(bytes: &[u8], front: Result<(T, usize)>) ->
         Err(Error::Empty(place)) if place < bytes.len() => Err(Error::InvalidDigit(place)),
         Err(error) => Err(error),
     }
+}
+
+// What the whole text stands for, by its digits one after another behind a head that is known. Out of line: a text whose
+// value is had at once pays for none of it.
+#[inline(never)]
+pub(super) fn complete_behind<T: Integer>(
+    bytes: &[u8],
+    format: &NumberFormat,
+    head: Head,
+) -> Result<T>
+    requires valid { IsNone (fault format.now) }
+    requires head { head_of format.now T.TYPE bytes.now ≡ Ok (record {
+      is_negative = head.is_negative;
+      is_prefixed = head.is_prefixed;
+      is_octal = head.is_octal;
+      start = head.start;
+      radix = head.radix;
+    }) }
+    ensures { view_of T.number result ≡ complete format.now T.TYPE bytes.now }
+{
+    completion::<T>(bytes, front_behind::<T>(bytes, format, head))
 }
 
 /// The integer that the whole text stands for under a format that may be invalid.

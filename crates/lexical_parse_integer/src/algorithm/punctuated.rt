@@ -129,6 +129,8 @@ fn value_behind<T: Integer>(bytes: &[u8], format: &NumberFormat, head: Head) -> 
     }
     match head.radix {
         10 => value_of_digits::<T>(digits, head.is_negative),
+        // Two hexadecimal digits may be more than a signed number of 8 bits: they are read from the left at once.
+        16 if T::BITS == 8 && T::IS_SIGNED && digits.len() > 1 => None,
         16 => value_of_nibbles::<T>(digits, head.is_negative),
         radix => value_by_table::<T>(digits, radix, head.is_negative),
     }
@@ -156,6 +158,43 @@ pub(super) fn value_behind_head<T: Integer>(
         return None;
     }
     value_behind::<T>(bytes, format, head)
+}
+
+// The value of the whole text under a format with a separator, where digits alone stand behind its head, or decimal digits
+// with a separator before each three.
+#[inline(always)]
+pub(super) fn value_of_parted<T: Integer>(
+    bytes: &[u8],
+    format: &NumberFormat,
+    separator: u8,
+    head: Head,
+) -> Option<T>
+    requires valid { IsNone (fault format.now) }
+    requires separator { format.now.digit_separator ≡ Some separator }
+    requires some { head.start < length bytes.now }
+    requires head { head_of format.now T.TYPE bytes.now ≡ Ok (record {
+      is_negative = head.is_negative;
+      is_prefixed = head.is_prefixed;
+      is_octal = head.is_octal;
+      start = head.start;
+      radix = head.radix;
+    }) }
+    ensures { IfSome result (λ value. complete format.now T.TYPE bytes.now ≡ Ok (T.number value)) }
+{
+    let digits = &bytes[head.start..];
+    if !keeps_rule_behind(format, head, digits) {
+        return None;
+    }
+    if head.radix == 16 {
+        return value_of_nibbles::<T>(digits, head.is_negative);
+    }
+    if head.radix != 10 {
+        return None;
+    }
+    if T::BITS < 32 || !format.integer_internal_digit_separator() {
+        return value_of_digits::<T>(digits, head.is_negative);
+    }
+    value_of_threes::<T>(digits, format, separator, head.is_negative)
 }
 
 // The head of a text whose sign was read, where nothing but `0x` can be its prefix. `None` says nothing.

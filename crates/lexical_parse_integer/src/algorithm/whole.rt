@@ -8,7 +8,10 @@ ghost use Rattle.lexical_parse_integer.specs.Grammar.{complete, complete_if_vali
 ghost use Rattle.lexical_parse_integer.specs.Head.{sign};
 ghost use Rattle.lexical_parse_integer.specs.Plain.{IsPlain};
 
-use crate::algorithm::front::{complete_from_front, completion, front_behind, head_of, sign_of};
+use crate::algorithm::front::{
+    complete_behind, complete_from_front, completion, front_behind, head_of, is_prefix_alone,
+    sign_of,
+};
 use crate::algorithm::plain::faults::{
     answer_after_digits, fault_after_many, place_after_digits, place_after_few,
 };
@@ -17,7 +20,7 @@ use crate::algorithm::plain::{
     value_of_decimal, value_of_many, value_of_plain,
 };
 use crate::algorithm::punctuated::{
-    is_parted_otherwise, value_behind_head, value_of_groups, value_of_row,
+    is_parted_otherwise, value_behind_head, value_of_groups, value_of_parted, value_of_row,
 };
 use lexical_util::error::Error;
 use lexical_util::format::{self, NumberFormat};
@@ -330,18 +333,22 @@ fn complete_plain<T: Integer>(bytes: &[u8], format: &NumberFormat) -> Result<T>
     }
 }
 
-// The complete answer under a valid format with a separator.
+// The complete answer under a valid format with a separator: the text's head is read once, and a fault there is told.
 #[inline(never)]
-#[tactic(auto, using(crate::proofs::plain::DigitsAlone::valid_answer))]
 fn complete_separated<T: Integer>(bytes: &[u8], format: &NumberFormat, separator: u8) -> Result<T>
     requires valid { IsNone (fault format.now) }
     requires separator { format.now.digit_separator ≡ Some separator }
     ensures { view_of T.number result ≡ complete format.now T.TYPE bytes.now }
 {
-    match value_of_groups::<T>(bytes, format, separator) {
-        Some(value) => Ok(value),
-        None => complete_from_front::<T>(bytes, format),
+    let head = head_of::<T>(bytes, format)?;
+    if head.start < bytes.len() {
+        if let Some(value) = value_of_parted::<T>(bytes, format, separator, head) {
+            return Ok(value);
+        }
+    } else if is_prefix_alone(bytes, head) {
+        return Err(Error::Empty(bytes.len()));
     }
+    complete_behind::<T>(bytes, format, head)
 }
 
 // The complete answer under a valid format with punctuation, by one call.

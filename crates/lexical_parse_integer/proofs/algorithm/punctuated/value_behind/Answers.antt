@@ -21,8 +21,8 @@ returns-in-10 g c =
     (λ v stands. digits_read _ _ c.args.bytes.now _ _ 10 c.requires.valid c.requires.head c.in-10.is c.if-bytes-head.false (sym c.keeps_rule_behind.ensures ∙ c.if-not-keeps_rule_behind.false) stands)
     c.value_of_digits.ensures
 
-pub returns-in-16 : goal.returns-in-16
-returns-in-16 g c =
+pub returns-in-16-2 : goal.returns-in-16-2
+returns-in-16-2 g c =
     if_found c.value_of_nibbles.result
     (λ v stands. digits_read _ _ c.args.bytes.now _ _ 16 c.requires.valid c.requires.head c.in-16.is c.if-bytes-head.false (sym c.keeps_rule_behind.ensures ∙ c.if-not-keeps_rule_behind.false) stands)
     c.value_of_nibbles.ensures
