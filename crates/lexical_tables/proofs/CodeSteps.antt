@@ -67,7 +67,6 @@ asked_code dialect code target is read = record {
     numbers = λ three. has_read code target (is.read read);
     read = λ more. absurd (omega (arith, more));
   };
-  no_blanks = λ more. absurd (omega (arith, more));
   no_number = λ more. absurd (omega (arith, more));
   amounts = λ four. absurd (omega (arith, four));
 }
@@ -77,7 +76,6 @@ pub low_code : (dialect : Dialect) (code : ℕ) (target : Option TargetView) →
     → IsCodeIn dialect code target
 low_code dialect code target is low = record {
   column = is;
-  no_blanks = λ more. absurd (omega (arith, low, more));
   no_number = λ more. absurd (omega (arith, low, more));
   amounts = λ four. absurd (omega (arith, low, four));
 }
@@ -91,18 +89,16 @@ none_code dialect target = record {
     numbers = λ three. absurd (omega (arith, three));
     read = λ more. absurd (omega (arith, more));
   };
-  no_blanks = λ more. absurd (omega (arith, more));
   no_number = λ more. absurd (omega (arith, more));
   amounts = λ four. absurd (omega (arith, four));
 }
 
 -- the code of a type
 pub type_code : (dialect : Dialect) (code : ℕ) (target : Option TargetView) → IsCode code target → 8 ≤ code
-    → dialect.allows_blanks ≡ false → (has_coded_bits code ≡ true → ends_in_digit dialect.missing.now ≡ false)
+    → (has_coded_bits code ≡ true → ends_in_digit dialect.missing.now ≡ false)
     → IsCodeIn dialect code target
-type_code dialect code target is type blanks mark = record {
+type_code dialect code target is type mark = record {
   column = is;
-  no_blanks = λ more. blanks;
   no_number = λ more. mark;
   amounts = λ four. absurd (omega (arith, type, four));
 }
@@ -117,7 +113,6 @@ amounts_code dialect target has blanks mark = record {
     numbers = λ three. absurd (omega (arith, three));
     read = λ more. absurd (omega (arith, more));
   };
-  no_blanks = λ more. absurd (omega (arith, more));
   no_number = λ more. absurd (omega (arith, more));
   amounts = λ four. record { column = has; no_blanks = blanks; no_number = mark };
 }
@@ -188,7 +183,6 @@ same_code dialect code old new same is = record {
     numbers = λ three. sym (numbers_are new) ∙ ap are_numbers same ∙ numbers_are old ∙ is.column.numbers three;
     read = λ some. from_kind code new (subst (IsKindAs code) (sym same) (to_kind code old (is.column.read some)));
   };
-  no_blanks = is.no_blanks;
   no_number = is.no_number;
   amounts = λ four. same_amounts dialect old new same (is.amounts four);
 }

@@ -67,7 +67,7 @@ module _ (start size : ℕ) (ahead : List ℕ) where
           let whole : size - 2 * quotes ≡ size = omega (arith, none) in
           let text : take (size - 2 * quotes) (drop quotes ahead) ≡ cell.text =
           ap (λ n. take n (drop quotes ahead)) whole ∙ ap (λ q. take size (drop q ahead)) none in
-          plain_answer d format (coded_type code) may_miss cell put.is_negative put.number (coded.no_blanks read)
+          plain_answer d format (coded_type code) may_miss cell put.is_negative put.number
           (subst (IsNumeralUnder format put.is_negative put.number) text (put.numeral format decimal)) valid decimal.plain
           decimal.decimal put.fits put.minus no_mark
       answer_of format decimal valid (inr one) =
@@ -76,7 +76,7 @@ module _ (start size : ℕ) (ahead : List ℕ) where
           let text : take (size - 2 * quotes) (drop quotes ahead) ≡ take (length cell.text - 2) (drop 1 cell.text) =
           ap (λ n. take n (drop quotes ahead)) within ∙ ap (λ q. take (length cell.text - 2) (drop q ahead)) one.0
           ∙ inner some in
-          quoted_answer d format (coded_type code) may_miss cell put.is_negative put.number (coded.no_blanks read) one.1 one.2
+          quoted_answer d format (coded_type code) may_miss cell put.is_negative put.number one.1 one.2
           one.3 one.4 (subst (IsNumeralUnder format put.is_negative put.number) text (put.numeral format decimal)) valid
           decimal.plain decimal.decimal put.fits put.minus no_mark
         where

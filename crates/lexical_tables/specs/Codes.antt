@@ -60,11 +60,10 @@ pub record IsCode (code : ℕ) (target : Option TargetView) : Type 0 where
   pub numbers : code ≡ 3 → has_numbers target ≡ true
   pub read : 8 ≤ code → IsReadAs code target
 
--- A code is right for a column in a table: where it says how its cells are read, no blanks stand there, and what stands for
--- a missing number is none itself. So it is in a column of amounts.
+-- A code is right for a column in a table: where it says how its cells are read, what stands for a missing number is none
+-- itself. So it is in a column of amounts.
 pub record IsCodeIn (dialect : Dialect) (code : ℕ) (target : Option TargetView) : Type 0 where
   pub column : IsCode code target
-  pub no_blanks : 8 ≤ code → dialect.allows_blanks ≡ false
   pub no_number : 8 ≤ code → has_coded_bits code ≡ true → ends_in_digit dialect.missing.now ≡ false
   pub amounts : code ≡ 4 → IsAmountsIn dialect target
 

@@ -125,7 +125,7 @@ fn code_of_amounts<C: TableColumn>(target: &C, dialect: &Dialect<'_>, is_mark_nu
     AT_ONCE
 }
 
-// A column's code in a table: where blanks are passed, or where the mark may be a number too, its numbers are asked for.
+// A column's code in a table: where the mark may be a number too, its numbers are asked for.
 #[inline(always)]
 #[tactic(auto, using(crate::proofs::CodeSteps::asked_code, crate::proofs::CodeSteps::low_code, crate::proofs::CodeSteps::none_code, crate::proofs::CodeSteps::type_code))]
 fn code_in<C: TableColumn>(target: &C, dialect: &Dialect<'_>, is_mark_number: bool) -> u8
@@ -141,9 +141,6 @@ fn code_in<C: TableColumn>(target: &C, dialect: &Dialect<'_>, is_mark_number: bo
     }
     if code < U8 {
         return UNKNOWN;
-    }
-    if dialect.allows_blanks {
-        return AT_ONCE;
     }
     if is_mark_number {
         if has_bits(code) {

@@ -1,11 +1,13 @@
 -- Cells of digits, alone or within quotes: each stands for the number that the digits write.
-use Rattle.std.proofs.Common.{◌≡◌, ◌≢◌, ◌∙◌, ℕ, ◌+◌, ◌-◌, ◌<◌, ◌≤◌, ◌==◌, ◌&&◌, Bool, true, false, cond, List, length, take, drop, get_or, Option, Some, None, Ok, refl, ap, ap₂, sym, subst, arith, length-drop, length-take-le}
+use Rattle.std.proofs.Common.{◌≡◌, ◌≢◌, ◌∙◌, ℕ, ◌+◌, ◌-◌, ◌<◌, ◌≤◌, ◌==◌, ◌&&◌, ◌||◌, Bool, true, false, cond, List, length, take, drop, get_or, Option, Some, None, Ok, refl, ap, ap₂, sym, subst, arith, length-drop, length-take-le}
 use Rattle.std.specs.Prelude.{IsNone, nat_lt, option_map}
+use Rattle.std.specs.List.{prefix_len, suffix_len}
 use Rattle.std.specs.Str.{bytes_eq}
 use Rattle.std.proofs.lemmas.Bool.{and_right, eq-eqb, eqb-true, false_from_ne_true, false≢true, lt-ltb}
 use Rattle.std.proofs.lemmas.Grind.{get_or_after_one}
 use Rattle.std.proofs.lemmas.List.{get_or-take}
-use Rattle.std.proofs.lemmas.List.Sums.{position_or_len_is}
+use Rattle.std.proofs.lemmas.List.Sums.{position_or_len_is, prefix_len-drop_no, suffix_len-take_no}
+use Rattle.std.proofs.Math.Seq.{take-length}
 use Rattle.std.proofs.lemmas.Slice.Eq.{bytes_eq-Decides}
 use Rattle.lexical_util.specs.declared.error.Error.{Error}
 use Rattle.lexical_util.specs.Format.{Format}
@@ -18,8 +20,8 @@ use Rattle.lexical_fields.specs.Fields.{FieldView}
 use Rattle.lexical_fields.specs.Numerals.{IsNumeral}
 use Rattle.lexical_fields.specs.ReadFields.{field_answer}
 use Rattle.lexical_fields.proofs.FieldAnswers.{answered}
-use Rattle.lexical_fields.proofs.Numerals.{numeral_complete, numeral_ends, numeral_without}
-use Rattle.lexical_tables.specs.Cells.{Kind, answer_as, begins_with_quote, content, ends_in_digit, fault_round_number, first_quote, misplaced_quote, quote_fault, some_value, unless, value_at, within_quotes}
+use Rattle.lexical_fields.proofs.Numerals.{numeral_complete, numeral_ends, numeral_some, numeral_without}
+use Rattle.lexical_tables.specs.Cells.{Kind, answer_as, begins_with_quote, content, ends_in_digit, fault_round_number, first_quote, is_blank, misplaced_quote, quote_fault, some_value, unless, value_at, within_quotes, without_blanks}
 use Rattle.lexical_tables.specs.Codes.{IsNumeralUnder}
 use Rattle.lexical_tables.specs.Quotes.{quote}
 use Rattle.lexical_tables.specs.Readings.{Integers, Number}
@@ -65,6 +67,49 @@ unquoted : (is_negative : Bool) (number : ℕ) (text : List ℕ) → IsNumeral i
 unquoted is_negative number text n k low =
     numeral_without quote refl (λ same. omega (arith, same)) is_negative number text n k low
 
+-- nor a blank
+no_blank : (is_negative : Bool) (number : ℕ) (text : List ℕ) → IsNumeral is_negative number text → (k : ℕ)
+    → k < length text → is_blank (get_or text k 0) ≡ false
+no_blank is_negative number text n k low =
+    let byte = get_or text k 0 in
+    ap₂ (λ a b. a || b)
+    (false_from_ne_true (byte == 32) (λ same. numeral_without 32 refl (λ is. omega (arith, is)) is_negative number text n k low
+    (eqb-true byte 32 same)))
+    (false_from_ne_true (byte == 9) (λ same. numeral_without 9 refl (λ is. omega (arith, is)) is_negative number text n k low
+    (eqb-true byte 9 same)))
+
+-- so a numeral has none on either side
+without_none : (is_negative : Bool) (number : ℕ) (held : FieldView) → IsNumeral is_negative number held.text
+    → without_blanks held ≡ held
+without_none is_negative number held n =
+    let text = held.text in
+    let some : 0 < length text = numeral_some is_negative number text n in
+    let front : prefix_len is_blank text ≡ 0 =
+    prefix_len-drop_no is_blank text 0 0 some (no_blank is_negative number text n 0 some) in
+    let behind : suffix_len is_blank text ≡ 0 = ap (suffix_len is_blank) (sym (take-length text))
+    ∙ suffix_len-take_no is_blank text (length text) 0 some (omega arith)
+    (no_blank is_negative number text n (length text - 1) (omega (arith, some))) in
+    let all : length text - suffix_len is_blank text ≡ length text = omega (arith, behind) in
+    let here : held.start + 0 ≡ held.start = omega arith in
+    ap (λ k. record {
+      start = held.start + k;
+      text = take (length (drop k text) - suffix_len is_blank (drop k text)) (drop k text);
+    }) front
+    ∙ ap₂ (λ place rest. record { start = place; text = rest }) here (ap (λ k. take k text) all ∙ take-length text)
+
+blanks_none : (blanks : Bool) (is_negative : Bool) (number : ℕ) (held : FieldView) → IsNumeral is_negative number held.text
+    → cond blanks (without_blanks held) held ≡ held
+blanks_none true is_negative number held n = without_none is_negative number held n
+blanks_none false is_negative number held n = refl
+
+-- a numeral without quotes is what its cell holds
+numeral_whole : (quotes blanks : Bool) (cell : FieldView) (is_negative : Bool) (number : ℕ)
+    → IsNumeral is_negative number cell.text → begins_with_quote cell.text ≡ false → content quotes blanks cell ≡ cell
+numeral_whole quotes blanks cell is_negative number n unquoted =
+    ap (λ t. cond blanks (without_blanks (cond t (within_quotes cell) cell)) (cond t (within_quotes cell) cell))
+    (and_right quotes (begins_with_quote cell.text) unquoted)
+    ∙ blanks_none blanks is_negative number cell n
+
 -- a cell without blanks and quotes is what it holds
 pub held_whole : (quotes blanks : Bool) (cell : FieldView) → blanks ≡ false → begins_with_quote cell.text ≡ false
     → content quotes blanks cell ≡ cell
@@ -73,17 +118,17 @@ held_whole quotes blanks cell no_blanks unquoted =
 
 -- a numeral alone
 pub plain_answer : (d : Dialect) (format : Format) (type : IntegerType) (may_miss : Bool) (cell : FieldView)
-    (is_negative : Bool) (number : ℕ) → d.allows_blanks ≡ false → IsNumeralUnder format is_negative number cell.text
+    (is_negative : Bool) (number : ℕ) → IsNumeralUnder format is_negative number cell.text
     → fault format ≡ None → IsPlain format → format.mantissa_radix ≡ 10 → IsNumber type (with_sign is_negative number)
     → (is_negative ≡ true → type.is_signed ≡ true) → (may_miss ≡ true → ends_in_digit d.missing.now ≡ false)
     → answer_as d (Some (integers format type may_miss)) cell ≡ Ok (Some (Number (with_sign is_negative number)))
-plain_answer d format type may_miss cell is_negative number no_blanks n valid plain ten fits signed other =
+plain_answer d format type may_miss cell is_negative number n valid plain ten fits signed other =
     let none = unquoted is_negative number cell.text n.numeral in
     let kind = integers format type may_miss in
     ap (λ found. unless found (value_at d kind (content d.has_quotes d.allows_blanks cell)))
     (sym (unquoted_fault d.has_quotes true cell none))
     ∙ ap (value_at d kind)
-    (held_whole d.has_quotes d.allows_blanks cell no_blanks (begins_unquoted cell.text none))
+    (numeral_whole d.has_quotes d.allows_blanks cell is_negative number n.numeral (begins_unquoted cell.text none))
     ∙ number_here d format type may_miss cell is_negative number n valid plain ten fits signed other
 
 -- ---- within quotes
@@ -135,18 +180,20 @@ module _ (text : List ℕ) (two : 2 ≤ length text) (first : get_or text 0 0 �
 -- a numeral within quotes, where these have a meaning
 pub quoted_answer : (d : Dialect) (format : Format) (type : IntegerType) (may_miss : Bool) (cell : FieldView)
     (is_negative : Bool) (number : ℕ)
-    → d.allows_blanks ≡ false → d.has_quotes ≡ true → 2 ≤ length cell.text → get_or cell.text 0 0 ≡ quote
+    → d.has_quotes ≡ true → 2 ≤ length cell.text → get_or cell.text 0 0 ≡ quote
     → get_or cell.text (length cell.text - 1) 0 ≡ quote
     → IsNumeralUnder format is_negative number (take (length cell.text - 2) (drop 1 cell.text))
     → fault format ≡ None → IsPlain format → format.mantissa_radix ≡ 10 → IsNumber type (with_sign is_negative number)
     → (is_negative ≡ true → type.is_signed ≡ true) → (may_miss ≡ true → ends_in_digit d.missing.now ≡ false)
     → answer_as d (Some (integers format type may_miss)) cell ≡ Ok (Some (Number (with_sign is_negative number)))
-quoted_answer d format type may_miss cell is_negative number no_blanks quotes two first last n valid plain ten fits signed other =
+quoted_answer d format type may_miss cell is_negative number quotes two first last n valid plain ten fits signed other =
     let kind = integers format type may_miss in
     let text = cell.text in
-    ap₂ (λ q b. unless (quote_fault q true cell) (value_at d kind (content q b cell))) quotes no_blanks
+    let within = numeral_within text two first last format is_negative number n in
+    ap (λ q. unless (quote_fault q true cell) (value_at d kind (content q d.allows_blanks cell))) quotes
     ∙ ap (λ found. unless (option_map (λ place. MisplacedQuote (cell.start + place)) found)
-    (value_at d kind (content true false cell))) (none_misplaced text two first last (unquoted is_negative number (take (length text - 2) (drop 1 text)) n.numeral))
-    ∙ ap (λ t. value_at d kind (cond t (within_quotes cell) cell)) (begins text two first last)
-    ∙ number_here d format type may_miss (within_quotes cell) is_negative number
-    (numeral_within text two first last format is_negative number n) valid plain ten fits signed other
+    (value_at d kind (content true d.allows_blanks cell))) (none_misplaced text two first last (unquoted is_negative number (take (length text - 2) (drop 1 text)) n.numeral))
+    ∙ ap (λ t. value_at d kind (cond d.allows_blanks (without_blanks (cond t (within_quotes cell) cell))
+    (cond t (within_quotes cell) cell))) (begins text two first last)
+    ∙ ap (value_at d kind) (blanks_none d.allows_blanks is_negative number (within_quotes cell) within.numeral)
+    ∙ number_here d format type may_miss (within_quotes cell) is_negative number within valid plain ten fits signed other
