@@ -97,8 +97,9 @@ fn put_found<C: TableColumn>(
     target.put_number(code, row, is_negative, number)
 }
 
-// Reads a cell of a column of amounts at once, the first bytes of a text, so many, and tells whether it did.
-#[inline(always)]
+// Reads a cell of a column of amounts at once, the first bytes of a text, so many, and tells whether it did. Out of line: inlined,
+// it makes the loops over rows too large to be inlined.
+#[inline(never)]
 fn read_amount<C: TableColumn, const HAS_QUOTES: bool>(
     target: &mut C,
     row: usize,
