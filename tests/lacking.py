@@ -54,6 +54,7 @@ CASES = [
     Case("tests/jad.sh nowhere", JAD),
     Case("tests/tables/compare.py", LIBRARY),
     Case("tests/tables/compare.py --tables 0", RANGE),
+    Case("tests/tables/compare.py --all --each 0", RANGE),
     Case("python3 tests/fixed/fuzz.py", "required: LIBRARY"),
     Case("python3 tests/fixed/fuzz.py build/libjadvolni.so", SHARED),
     Case("python3 tools/fuzz_c.py", SHARED),

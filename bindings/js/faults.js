@@ -1,8 +1,11 @@
 // What is known of a bad row of a table, and said of it.
 
 import { ParseError } from "./errors.js";
-import { endOfRow, LINE_FEED } from "./header.js";
+import { endOfRow } from "./header.js";
+import { ANSWER, answer } from "./layout.js";
 import { STATUSES } from "./lists.js";
+import { named, putBytes, TEXT } from "./memory.js";
+import { PIECE } from "./pieces.js";
 import { frontOf, quoted, quotedBytes } from "./shown.js";
 
 // So many bytes of a cell are told. As many more as a character has say how it goes on.
@@ -18,13 +21,18 @@ function cellOf(bytes, kind, { place, cell }) {
   return { start, front: bytes.subarray(start, start + Math.min(size, TOLD + LONGEST_CHARACTER)) };
 }
 
-/** Counts the line feeds before places, of which none is before the last one. */
+const lineColumn = named("jadvolni_line_column");
+
+/** Counts the line feeds before places, of which none is before the last one. The bytes go through memory piece by piece. */
 function lineCounter(bytes) {
   let lines = 0;
-  let next; // the first line feed that isn't counted
+  let counted = 0;
   return (place) => {
-    next ??= bytes.indexOf(LINE_FEED);
-    for (; next !== -1 && next < place; lines++) next = bytes.indexOf(LINE_FEED, next + 1);
+    for (; counted < place; counted = Math.min(counted + PIECE, place)) {
+      const size = BigInt(putBytes(bytes.subarray(counted, Math.min(counted + PIECE, place))));
+      lineColumn(ANSWER, TEXT, size, size);
+      lines += answer[0];
+    }
     return lines;
   };
 }

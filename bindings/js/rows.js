@@ -76,7 +76,8 @@ export function readRows(bytes, first, reads, how, errorOf) {
   let [start, row, badRows] = [first, 0, 0];
   while (start < length) {
     const { arrays, bad, badCount, count, place } = readNext(bytes, start, reads, how);
-    const errors = bad.map((it) => errorOf(badRowOf(it, row, start)));
+    const told = bad.map((it) => badRowOf(it, row, start));
+    const errors = told.map((it) => errorOf(it)); // which may put other bytes into memory
     if (!how.skips && errors.length > 0) throw errors[0];
     arrays.forEach((array, index) => array && parts[index].push(partOf(array, reads[index], count, start)));
     start += place;

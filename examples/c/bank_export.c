@@ -1,6 +1,5 @@
-/* Prints a bank's or a shop's export, and the sum of its amounts: bank_export MARKS < FILE
- * The three marks part fields, stand before the cents and group digits: ';,.' for -1.234,50 and ',.,' for "1,234.00".
- * A row has a day, an account, what it was for and an amount, which may be missing; the first row has their names. */
+/* Prints a bank's or a shop's export of days, accounts, purposes and amounts, and their sum: bank_export MARKS < FILE
+ * These part fields, stand before cents, and group digits: ';,.' for -1.234,50 and ',.,' for "1,234.00". */
 #include <jadvolni.h>
 #include <err.h>
 #include <stdio.h>
@@ -18,8 +17,7 @@ static void print_amount(int64_t amount)
     printf("%s%lld.%02lld\n", amount < 0 ? "-" : "", llabs(amount / 100), llabs(amount % 100));
 }
 
-/* Prints a row of rows, and adds its amount. Control characters are blanks, so that the row stays on its line. */
-static void print_row(const char *rows, size_t row)
+static void print_row(const char *rows, size_t row) // and adds its amount; control characters are blanks
 {
     if (__builtin_add_overflow(sum, cents[row], &sum)) errx(1, "the sum leaves the type");
     for (int column = 0; column < 3; column++, fputs(" | ", stdout)) {
@@ -27,8 +25,7 @@ static void print_row(const char *rows, size_t row)
         size_t size = jadvolni_fold_quotes(rows + cell.start, cell.size, field, cell.size);
         for (size_t k = 0; k < size; k++) putchar((unsigned char)field[k] < ' ' ? ' ' : field[k]);
     }
-    if (present[row >> 3] >> (row & 7) & 1) print_amount(cents[row]);
-    else puts("no amount");
+    if (present[row >> 3] >> (row & 7) & 1) print_amount(cents[row]); else puts("no amount");
 }
 
 int main(int count, char **arguments)
@@ -58,7 +55,6 @@ int main(int count, char **arguments)
         for (size_t row = 0; row < r.rows; row++) print_row(text + start, row);
     }
     print_amount(sum);
-    if (bad_rows > 0) warnx("bad rows: %zu", bad_rows);
     if (fflush(stdout) != 0 || ferror(stdout)) err(2, "standard output");
-    return bad_rows > 0;
+    if (bad_rows > 0) errx(1, "bad rows: %zu", bad_rows);
 }

@@ -47,6 +47,14 @@ test("lines as an editor counts", () => {
   }, 'line 9, "n": "x": invalid digit at byte 0 of the cell');
 });
 
+test("lines behind a piece of the memory", () => {
+  const [line, many] = ["12345678,12\n", Math.ceil((1.5 * LONGEST_ROW) / 12)];
+  const text = `${line.repeat(many)}1,x\n1,y\n${line.repeat(many)}1,z\n`;
+  const errors = [];
+  parseTable(text, [null, "u8"], { onError: "skip", errors });
+  assert.deepEqual(errors.map((it) => [it.line, it.text]), [[many, "x"], [many + 1, "y"], [2 * many + 2, "z"]]);
+});
+
 test("a row stops before the empty ones that are skipped", () => {
   tells("\n\n1\nx\n\n\n\n2\n", ["u8"], { skips_empty_rows: true },
     { row: 1, line: 3, place: 4, rowStart: 4, rowStop: 6 });

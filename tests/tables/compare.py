@@ -3,6 +3,7 @@
 
     tests/tables/compare.py [--tables N] [--seed N]    random tables
     tests/tables/compare.py --all [--longest N]        all short texts, under each setting
+        [--each N]                                     or of their questions each N-th
 
 Answers, arrays and bits have to be those of reading.py, and the arrays and bits as before where
 nothing was put. Each table is asked for twice: up to its first fault, and with bad rows skipped,
@@ -189,12 +190,13 @@ def main() -> int:
         description=__doc__, formatter_class=argparse.RawDescriptionHelpFormatter)
     parser.add_argument("--all", action="store_true")
     parser.add_argument("--longest", type=positive, default=4)
+    parser.add_argument("--each", type=positive, default=1)
     parser.add_argument("--tables", type=positive, default=100_000)
     parser.add_argument("--seed", type=int, default=random.SystemRandom().randrange(10 ** 9))
     given = parser.parse_args()
-    print(f"compare: all texts of up to {given.longest} bytes" if given.all
+    print(f"compare: texts of up to {given.longest} bytes, each {given.each}" if given.all
           else f"compare: seed {given.seed}", flush=True)
-    asked = (short_questions(given.longest) if given.all
+    asked = (itertools.islice(short_questions(given.longest), 0, None, given.each) if given.all
              else itertools.islice(random_questions(random.Random(given.seed)), given.tables))
     count = well = 0
     told: List[str] = []

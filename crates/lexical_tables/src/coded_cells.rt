@@ -1,23 +1,22 @@
 //! Cells that are read at once, by the codes of their columns.
 
 ghost use Rattle.std.specs.Prelude.{◌≡◌, ◌+◌, ◌<◌, ◌≤◌, ◌^◌, ℕ, IsTrue, None, false, get_or, is_none, length, map, option_map, slice_index, take};
-ghost use Rattle.lexical_tables.specs.Amounts.{IsAmountsIn};
 ghost use Rattle.lexical_tables.specs.ByColumn.{AreUsable, answer_at, fault_in, kinds_of, put_read_at, wrong_cell};
 ghost use Rattle.lexical_tables.specs.Codes.{AreCodes, IsCodeIn};
 
 use crate::answers::TableError;
 use crate::by_column::read_by_column;
-use crate::codes::{AMOUNTS, CODED, NOT_READ, U8, UNKNOWN};
+use crate::codes::{CODED, NOT_READ, U8, UNKNOWN};
 use crate::content::Cell;
 use crate::dialect::Dialect;
-use crate::digit_cells::{read_amount, read_coded, read_long_coded};
+use crate::digit_cells::{read_coded, read_long_coded};
 use crate::known_cells::{read_known, read_plain};
 use crate::targets::TableColumn;
 use lexical_parse_integer::Options;
 
 // Reads the cell of a column at once, the first bytes of a text, so many, by the column's code, and tells whether it did.
 #[inline(always)]
-pub(crate) fn read_coded_cell<C: TableColumn, const HAS_QUOTES: bool>(
+pub(crate) fn read_coded_cell<C: TableColumn, const HAS_QUOTES: bool, const HAS_AMOUNTS: bool>(
     targets: &mut [C],
     codes: &[u8; CODED],
     column: usize,
@@ -44,7 +43,7 @@ pub(crate) fn read_coded_cell<C: TableColumn, const HAS_QUOTES: bool>(
     if column >= targets.len() {
         return false;
     }
-    read_coded::<C, HAS_QUOTES>(
+    read_coded::<C, HAS_QUOTES, HAS_AMOUNTS>(
         &mut targets[column],
         codes[column],
         row,
@@ -125,35 +124,6 @@ fn read_plain_cell<C: TableColumn>(
         ahead,
     };
     read_plain(&mut targets[column], code, row, cell, dialect)
-}
-
-// Reads the cell of a column of amounts at once, the first bytes of a text, so many, and tells whether it did. Out of line, to
-// keep registers for the loop.
-#[inline(never)]
-fn read_amount_cell<C: TableColumn>(
-    targets: &mut [C],
-    column: usize,
-    row: usize,
-    ahead: &[u8],
-    size: usize,
-    dialect: &Dialect<'_>,
-) -> bool
-    requires amounts { column < length targets.old
-        → IsAmountsIn dialect.now (get_or (map C.target targets.old) column None) }
-    requires usable { AreUsable (row + 1) (map C.target targets.old) }
-    requires room { size + 17 ≤ length ahead.now }
-    ensures fault { IsTrue result → (start : ℕ) → fault_in (answer_at dialect.now
-        (kinds_of (map C.target targets.old)) column
-        (record { start = start; text = take size ahead.now })) ≡ None }
-    ensures targets { IsTrue result → (start : ℕ) → map C.target targets.new ≡ put_read_at row
-        column (answer_at dialect.now (kinds_of (map C.target targets.old)) column
-        (record { start = start; text = take size ahead.now })) (map C.target targets.old) }
-    ensures kept { result ≡ false → map C.target targets.new ≡ map C.target targets.old }
-{
-    if column >= targets.len() {
-        return false;
-    }
-    read_amount(&mut targets[column], row, ahead, size, dialect)
 }
 
 // Reads the cell of a column as `read_known` does, the first bytes of a text, so many. Out of line, to keep registers for the loop.
@@ -242,11 +212,6 @@ fn read_by_code<C: TableColumn>(
     }
     if code <= NOT_READ {
         return false;
-    }
-    if code == AMOUNTS {
-        if read_amount_cell(targets, column, row, ahead, size, dialect) {
-            return true;
-        }
     }
     if read_plain_cell(targets, code, column, row, start, ahead, size, dialect) {
         return true;

@@ -150,18 +150,24 @@ fn code_in<C: TableColumn>(target: &C, dialect: &Dialect<'_>, is_mark_number: bo
     code
 }
 
-// Asks each column that may have a code for it.
+// Asks each column that may have a code for it, and tells whether one has amounts.
 #[inline(never)]
 pub(crate) fn put_codes<C: TableColumn>(
     dialect: &Dialect<'_>,
     targets: &[C],
     codes: &mut [u8; CODED],
-)
+) -> bool
     ensures { AreCodes dialect.now codes.new (map C.target targets.now) }
 {
     let is_mark_number = ends_in_digit(dialect.missing);
     let count = targets.len().min(CODED);
+    let mut has_amounts = false;
     for column in 0..count {
-        codes[column] = code_in(&targets[column], dialect, is_mark_number);
+        let code = code_in(&targets[column], dialect, is_mark_number);
+        codes[column] = code;
+        if code == AMOUNTS {
+            has_amounts = true;
+        }
     }
+    has_amounts
 }

@@ -8,7 +8,7 @@ ghost use Rattle.lexical_tables.specs.ByColumn.{IsUsable, fault_in, kind_of, put
 ghost use Rattle.lexical_tables.specs.Cells.{answer_as, quote_fault};
 ghost use Rattle.lexical_tables.specs.Codes.{AreQuotesRound, IsCodeIn, IsDecimal, IsNumberPut, IsNumeralUnder, IsReadAs, has_zero_rule};
 
-use crate::codes::{NOT_READ, U8, WITH_ZERO_RULE};
+use crate::codes::{AMOUNTS, NOT_READ, U8, WITH_ZERO_RULE};
 use crate::dialect::Dialect;
 use crate::quotes::shows_no_quote;
 use crate::targets::TableColumn;
@@ -97,10 +97,36 @@ fn put_found<C: TableColumn>(
     target.put_number(code, row, is_negative, number)
 }
 
+// Reads a cell of a column of amounts at once, the first bytes of a text, so many, and tells whether it did. Out of line: inlined,
+// it makes the loops over rows too large to be inlined.
+#[inline(never)]
+fn read_amount<C: TableColumn, const HAS_QUOTES: bool>(
+    target: &mut C,
+    row: usize,
+    ahead: &[u8],
+    size: usize,
+    dialect: &Dialect<'_>,
+) -> bool
+    requires quotes { dialect.now.has_quotes ≡ HAS_QUOTES }
+    requires amounts { IsAmountsIn dialect.now (C.target target.old) }
+    requires usable { IsUsable (row + 1) (C.target target.old) }
+    requires room { size + 17 ≤ length ahead.now }
+    ensures fault { IsTrue result → (start : ℕ) → fault_in (answer_as dialect.now
+        (option_map kind_of (C.target target.old))
+        (record { start = start; text = take size ahead.now })) ≡ None }
+    ensures target { IsTrue result → (start : ℕ) → C.target target.new ≡ option_map (put_read row
+        (answer_as dialect.now (option_map kind_of (C.target target.old))
+        (record { start = start; text = take size ahead.now }))) (C.target target.old) }
+    ensures kept { result ≡ false → C.target target.new ≡ C.target target.old }
+{
+    let (held, count) = within_quotes(ahead, size, HAS_QUOTES);
+    target.read_amount(row, held, count)
+}
+
 // Reads a cell at once, the first bytes of a text, so many, where its column isn't read, or it is digits alone, behind a minus
-// or within quotes, and tells whether it did.
+// or within quotes, or an amount where a table has some, and tells whether it did.
 #[inline(always)]
-pub(crate) fn read_coded<C: TableColumn, const HAS_QUOTES: bool>(
+pub(crate) fn read_coded<C: TableColumn, const HAS_QUOTES: bool, const HAS_AMOUNTS: bool>(
     target: &mut C,
     code: u8,
     row: usize,
@@ -121,34 +147,13 @@ pub(crate) fn read_coded<C: TableColumn, const HAS_QUOTES: bool>(
     ensures kept { result ≡ false → C.target target.new ≡ C.target target.old }
 {
     if code < U8 {
+        if HAS_AMOUNTS && code == AMOUNTS {
+            return read_amount::<C, HAS_QUOTES>(target, row, ahead, size, dialect);
+        }
         return code == NOT_READ && shows_no_fault(ahead, size, HAS_QUOTES);
     }
     let (held, count) = within_quotes(ahead, size, HAS_QUOTES);
     put_found(target, code, row, held, count, number_of_front(held, count))
-}
-
-// Reads a cell of a column of amounts at once, the first bytes of a text, so many, and tells whether it did.
-#[inline(always)]
-pub(crate) fn read_amount<C: TableColumn>(
-    target: &mut C,
-    row: usize,
-    ahead: &[u8],
-    size: usize,
-    dialect: &Dialect<'_>,
-) -> bool
-    requires amounts { IsAmountsIn dialect.now (C.target target.old) }
-    requires usable { IsUsable (row + 1) (C.target target.old) }
-    requires room { size + 17 ≤ length ahead.now }
-    ensures fault { IsTrue result → (start : ℕ) → fault_in (answer_as dialect.now
-        (option_map kind_of (C.target target.old))
-        (record { start = start; text = take size ahead.now })) ≡ None }
-    ensures target { IsTrue result → (start : ℕ) → C.target target.new ≡ option_map (put_read row
-        (answer_as dialect.now (option_map kind_of (C.target target.old))
-        (record { start = start; text = take size ahead.now }))) (C.target target.old) }
-    ensures kept { result ≡ false → C.target target.new ≡ C.target target.old }
-{
-    let (held, count) = within_quotes(ahead, size, dialect.has_quotes);
-    target.read_amount(row, held, count)
 }
 
 // Reads a cell as `read_coded` does, of more digits.

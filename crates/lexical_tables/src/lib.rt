@@ -31,6 +31,7 @@ mod fixed_targets;
 mod fold;
 mod header;
 mod known_cells;
+mod marked_rows;
 mod misplaced;
 mod next_part;
 mod numbers;

@@ -10,9 +10,8 @@ ghost use Rattle.lexical_tables.specs.Rows.{FirstCounts, behind_piece, carriage_
 
 use crate::answers::{Table, TableError};
 use crate::by_column::read_rest;
-use crate::cells::column_count;
 use crate::coded_cells::read_coded_cell;
-use crate::codes::{CODED, UNKNOWN, put_codes};
+use crate::codes::{CODED, put_codes};
 use crate::dialect::{Dialect, Layout};
 use crate::ends::{LEAST_MARKED, next_ends};
 use crate::far_cells::read_row_on;
@@ -44,7 +43,12 @@ pub(crate) fn marked_separator(text: &[u8], dialect: &Dialect<'_>) -> Option<u8>
 // Reads cells of a row at once, by the codes of their columns, from what is left of it on, as long as marks find them and they are
 // had, up to the row's end, if nothing is wrong there. No call stands in the loop, so that all it needs stays in registers.
 #[inline(always)]
-pub(crate) fn read_cells_at_once<'a, C: TableColumn, const HAS_QUOTES: bool>(
+pub(crate) fn read_cells_at_once<
+    'a,
+    C: TableColumn,
+    const HAS_QUOTES: bool,
+    const HAS_AMOUNTS: bool,
+>(
     text: &[u8],
     from: Left<'a>,
     first: usize,
@@ -98,7 +102,7 @@ pub(crate) fn read_cells_at_once<'a, C: TableColumn, const HAS_QUOTES: bool>(
         if ends_wrong(left.text, part, count, columns, dialect) {
             return not_done(left, column);
         }
-        if !read_coded_cell::<C, HAS_QUOTES>(
+        if !read_coded_cell::<C, HAS_QUOTES, HAS_AMOUNTS>(
             targets, codes, column, index, left.text, part.size, dialect,
         ) {
             return not_done(left, column);
@@ -123,7 +127,13 @@ pub(crate) struct Behind<'a> {
 // marks finds its cells: what is left of the text behind it, where nothing is wrong. An answer that may be a fault would clear
 // its memory for each row. It says by a parameter who calls it: a function of one caller is inlined, however large it is.
 #[inline(always)]
-fn read_marked_row<'a, C: TableColumn, const HAS_QUOTES: bool, const SKIPS: bool>(
+pub(crate) fn read_marked_row<
+    'a,
+    C: TableColumn,
+    const HAS_QUOTES: bool,
+    const HAS_AMOUNTS: bool,
+    const SKIPS: bool,
+>(
     end: usize,
     text: Left<'a>,
     index: usize,
@@ -157,7 +167,7 @@ fn read_marked_row<'a, C: TableColumn, const HAS_QUOTES: bool, const SKIPS: bool
     ensures marks { AreEnds dialect.now.has_quotes separator result.left.text.now
         result.left.marks }
 {
-    let read = read_cells_at_once::<C, HAS_QUOTES>(
+    let read = read_cells_at_once::<C, HAS_QUOTES, HAS_AMOUNTS>(
         text.text, text, 0, index, columns, separator, codes, dialect, targets,
     );
     if read.is_done {
@@ -166,7 +176,7 @@ fn read_marked_row<'a, C: TableColumn, const HAS_QUOTES: bool, const SKIPS: bool
             is_right: true,
         };
     }
-    let left = read_row_on::<C, HAS_QUOTES>(
+    let left = read_row_on::<C, HAS_QUOTES, HAS_AMOUNTS>(
         end - text.text.len(),
         text.text,
         read.left,
@@ -189,7 +199,7 @@ fn read_marked_row<'a, C: TableColumn, const HAS_QUOTES: bool, const SKIPS: bool
 // The numbers of the first row of a text go to its place in the targets, up to the row's fault, which is told: what is left of
 // the text behind it, where nothing is wrong.
 #[inline(always)]
-pub(crate) fn read_row<'a, C: TableColumn, const HAS_QUOTES: bool>(
+pub(crate) fn read_row<'a, C: TableColumn, const HAS_QUOTES: bool, const HAS_AMOUNTS: bool>(
     start: usize,
     text: Left<'a>,
     index: usize,
@@ -221,7 +231,7 @@ pub(crate) fn read_row<'a, C: TableColumn, const HAS_QUOTES: bool>(
     ensures marks { AreEndsIf marked dialect.now.has_quotes result.text.now result.marks }
 {
     if let Some(separator) = marked {
-        let behind = read_marked_row::<C, HAS_QUOTES, true>(
+        let behind = read_marked_row::<C, HAS_QUOTES, HAS_AMOUNTS, true>(
             start + text.text.len(),
             text,
             index,
@@ -271,21 +281,21 @@ pub(crate) fn behind_empty_rows<'a>(
     Left { text, marks: 0 }
 }
 
-// Asks the columns for their codes, where marks find the cells: else none is read by them.
+// Asks the columns for their codes, where marks find the cells, and tells whether one has amounts: else none is read by them.
 #[inline(always)]
 pub(crate) fn ask_codes<C: TableColumn>(
     marked: Option<u8>,
     dialect: &Dialect<'_>,
     targets: &[C],
     codes: &mut [u8; CODED],
-)
+) -> bool
     requires unknown { (k : ℕ) → k < length codes.old → slice_index codes.old k ≡ 0 }
     ensures { AreCodes dialect.now codes.new (map C.target targets.now) }
 {
     if marked.is_none() {
-        return;
+        return false;
     }
-    put_codes(dialect, targets, codes);
+    put_codes(dialect, targets, codes)
 }
 
 // `read_columns` of a text without marks. Out of line: it makes no codes, and a short text doesn't pay for them.
@@ -321,57 +331,5 @@ pub(crate) fn read_unmarked_rows<C: TableColumn>(
     Ok(Table {
         rows: count,
         stop: text.len() - left.len(),
-    })
-}
-
-// `read_columns` of a text with marks, once for tables with quotes and once for others: out of line, so that each has one loop.
-#[inline(never)]
-pub(crate) fn read_rows<C: TableColumn, const HAS_QUOTES: bool>(
-    text: &[u8],
-    separator: u8,
-    dialect: &Dialect<'_>,
-    options: &Options,
-    rows: usize,
-    targets: &mut [C],
-) -> Result<Table, TableError>
-    requires quotes { dialect.now.has_quotes ≡ HAS_QUOTES }
-    requires marked { IsMarked dialect.now separator }
-    requires usable { AreUsable rows (map C.target targets.old) }
-    ensures answer { result ≡ columns_answer (kinds_of (map C.target targets.old)) dialect.now rows
-        text.now }
-    ensures targets { map C.target targets.new ≡ columns_put dialect.now rows text.now
-        (map C.target targets.old) }
-    ensures goes_on { IfOk result (StopsAt dialect.now rows text.now) }
-{
-    let columns = column_count(dialect);
-    let mut codes = [UNKNOWN; CODED];
-    put_codes(dialect, targets, &mut codes);
-    let mut left = behind_empty_rows(Left { text, marks: 0 }, Some(separator), dialect);
-    let mut count = 0;
-    let mut wrong = None;
-    while count < rows && !left.text.is_empty() {
-        let behind = read_marked_row::<C, HAS_QUOTES, false>(
-            text.len(),
-            left,
-            count,
-            columns,
-            separator,
-            &codes,
-            dialect,
-            options,
-            targets,
-            &mut wrong,
-        );
-        if !behind.is_right {
-            if let Some(error) = wrong {
-                return Err(error);
-            }
-        }
-        left = behind_empty_rows(behind.left, Some(separator), dialect);
-        count += 1;
-    }
-    Ok(Table {
-        rows: count,
-        stop: text.len() - left.text.len(),
     })
 }

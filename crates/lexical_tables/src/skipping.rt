@@ -44,7 +44,7 @@ fn bad_row(error: TableError, bad_count: usize, start: usize, stop: usize) -> Ba
 // The numbers of the first row of a text go to its place in the targets, up to the row's fault: what is left of the text
 // behind it, or the fault.
 #[inline(always)]
-fn read_row<'a, C: TableColumn, const HAS_QUOTES: bool>(
+fn read_row<'a, C: TableColumn, const HAS_QUOTES: bool, const HAS_AMOUNTS: bool>(
     start: usize,
     text: Left<'a>,
     index: usize,
@@ -75,7 +75,7 @@ fn read_row<'a, C: TableColumn, const HAS_QUOTES: bool>(
         AreEndsIf marked dialect.now.has_quotes left.text.now left.marks) }
 {
     let mut wrong = None;
-    let left = pass::read_row::<C, HAS_QUOTES>(
+    let left = pass::read_row::<C, HAS_QUOTES, HAS_AMOUNTS>(
         start, text, index, columns, marked, codes, dialect, options, targets, &mut wrong,
     );
     match wrong {
@@ -117,6 +117,92 @@ fn pass_bad_row<'a, B: KeptRow>(
     behind
 }
 
+// `read_columns_skipping`, by the columns' codes.
+#[inline(always)]
+fn skip_coded_rows<C: TableColumn, B: KeptRow, const HAS_QUOTES: bool, const HAS_AMOUNTS: bool>(
+    text: &[u8],
+    marked: Option<u8>,
+    codes: &[u8; CODED],
+    dialect: &Dialect<'_>,
+    options: &Options,
+    rows: usize,
+    targets: &mut [C],
+    bad: &mut [B],
+) -> Skipped
+    requires quotes { dialect.now.has_quotes ≡ HAS_QUOTES }
+    requires marked { IfSome marked (λ separator. IsMarked dialect.now separator) }
+    requires codes { AreCodes dialect.now codes.now (map C.target targets.old) }
+    requires usable { AreUsable rows (map C.target targets.old) }
+    ensures answer { result ≡ skipping_answer (kinds_of (map C.target targets.old)) dialect.now
+        rows text.now }
+    ensures targets { map C.target targets.new ≡ skipping_put dialect.now rows text.now
+        (map C.target targets.old) }
+    ensures bad { bad.new ≡ put_in_front (map B.kept (skipped_rows
+        (kinds_of (map C.target targets.old)) dialect.now rows text.now)) bad.old }
+    ensures goes_on { SkipsTo dialect.now rows text.now result }
+    ensures right_rows { HoldRightRows dialect.now rows text.now (map C.target targets.old)
+        (map C.target targets.new) }
+{
+    let columns = column_count(dialect);
+    let mut left = behind_empty_rows(Left { text, marks: 0 }, marked, dialect);
+    let mut count = 0;
+    let mut bad_count = 0;
+    while count < rows && !left.text.is_empty() {
+        let start = text.len() - left.text.len();
+        match read_row::<C, HAS_QUOTES, HAS_AMOUNTS>(
+            start, left, count, columns, marked, codes, dialect, options, targets,
+        ) {
+            Ok(behind) => {
+                left = behind_empty_rows(behind, marked, dialect);
+                count += 1;
+            }
+            Err(error) => {
+                left = Left {
+                    text: pass_bad_row(text, start, error, bad_count, dialect, bad),
+                    marks: 0,
+                };
+                bad_count += 1;
+            }
+        }
+    }
+    Skipped {
+        rows: count,
+        bad_rows: bad_count,
+        stop: text.len() - left.text.len(),
+    }
+}
+
+// `skip_coded_rows` of a table with amounts, which it reads in its loop, out of line, as `read_rows` has one.
+#[inline(never)]
+fn skip_amount_rows<C: TableColumn, B: KeptRow, const HAS_QUOTES: bool>(
+    text: &[u8],
+    marked: Option<u8>,
+    codes: &[u8; CODED],
+    dialect: &Dialect<'_>,
+    options: &Options,
+    rows: usize,
+    targets: &mut [C],
+    bad: &mut [B],
+) -> Skipped
+    requires quotes { dialect.now.has_quotes ≡ HAS_QUOTES }
+    requires marked { IfSome marked (λ separator. IsMarked dialect.now separator) }
+    requires codes { AreCodes dialect.now codes.now (map C.target targets.old) }
+    requires usable { AreUsable rows (map C.target targets.old) }
+    ensures answer { result ≡ skipping_answer (kinds_of (map C.target targets.old)) dialect.now
+        rows text.now }
+    ensures targets { map C.target targets.new ≡ skipping_put dialect.now rows text.now
+        (map C.target targets.old) }
+    ensures bad { bad.new ≡ put_in_front (map B.kept (skipped_rows
+        (kinds_of (map C.target targets.old)) dialect.now rows text.now)) bad.old }
+    ensures goes_on { SkipsTo dialect.now rows text.now result }
+    ensures right_rows { HoldRightRows dialect.now rows text.now (map C.target targets.old)
+        (map C.target targets.new) }
+{
+    skip_coded_rows::<C, B, HAS_QUOTES, true>(
+        text, marked, codes, dialect, options, rows, targets, bad,
+    )
+}
+
 // `read_columns_skipping`, once for tables with quotes and once for others: out of line, so that each has one loop.
 #[inline(never)]
 fn skip_rows<C: TableColumn, B: KeptRow, const HAS_QUOTES: bool>(
@@ -140,35 +226,15 @@ fn skip_rows<C: TableColumn, B: KeptRow, const HAS_QUOTES: bool>(
         (map C.target targets.new) }
 {
     let marked = marked_separator(text, dialect);
-    let columns = column_count(dialect);
     let mut codes = [UNKNOWN; CODED];
-    ask_codes(marked, dialect, targets, &mut codes);
-    let mut left = behind_empty_rows(Left { text, marks: 0 }, marked, dialect);
-    let mut count = 0;
-    let mut bad_count = 0;
-    while count < rows && !left.text.is_empty() {
-        let start = text.len() - left.text.len();
-        match read_row::<C, HAS_QUOTES>(
-            start, left, count, columns, marked, &codes, dialect, options, targets,
-        ) {
-            Ok(behind) => {
-                left = behind_empty_rows(behind, marked, dialect);
-                count += 1;
-            }
-            Err(error) => {
-                left = Left {
-                    text: pass_bad_row(text, start, error, bad_count, dialect, bad),
-                    marks: 0,
-                };
-                bad_count += 1;
-            }
-        }
+    if ask_codes(marked, dialect, targets, &mut codes) {
+        return skip_amount_rows::<C, B, HAS_QUOTES>(
+            text, marked, &codes, dialect, options, rows, targets, bad,
+        );
     }
-    Skipped {
-        rows: count,
-        bad_rows: bad_count,
-        stop: text.len() - left.text.len(),
-    }
+    skip_coded_rows::<C, B, HAS_QUOTES, false>(
+        text, marked, &codes, dialect, options, rows, targets, bad,
+    )
 }
 
 /// Reads a table's columns into slices of their own, as [`read_columns`](crate::read_columns) does, and skips the rows

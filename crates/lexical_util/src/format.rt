@@ -91,7 +91,8 @@ impl NumberFormat {
         self.mantissa_radix()
     }
 
-    /// The byte that may come among the digits and counts for nothing, as `_` in `1_000`.
+    /// The byte that may come among the digits and counts for nothing, as `_` in `1_000`. It is no decimal comma: with `,`
+    /// between digits `12,505` is 12505. For amounts there are fixed-point numbers.
     ///
     /// It is matched exactly, also where it is a letter. The `integer_` flags say where it may be;
     /// with none of them it may be nowhere, and without a separator they have no effect.

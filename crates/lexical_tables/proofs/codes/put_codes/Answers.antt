@@ -9,9 +9,9 @@ loop-column-preserved g c =
     let low : c.loop-column.column < length c.args.targets.now = grind (arith, nat_tests) in
     let few : c.loop-column.column < 256 = grind (arith, nat_tests) in
     record {
-      size = length-set c.loop-column.codes c.loop-column.column c.code_in.result ∙ c.loop-column.invariant.size;
+      size = length-set c.loop-column.codes c.loop-column.column c.code_in-code.result ∙ c.loop-column.invariant.size;
       coded = below_next g.C.TableColumn.target c.args.dialect.now c.loop-column.column c.loop-column.codes
-          c.args.targets.now c.code_in.result _ c.loop-column.invariant.coded
+          c.args.targets.now c.code_in-code.result _ c.loop-column.invariant.coded
           (omega (arith, c.loop-column.invariant.size, few)) low
-          (subst (λ x. IsCodeIn c.args.dialect.now c.code_in.result (g.C.TableColumn.target x)) c.index-targets-column.is c.code_in.ensures);
+          (subst (λ x. IsCodeIn c.args.dialect.now c.code_in-code.result (g.C.TableColumn.target x)) c.index-targets-column.is c.code_in-code.ensures);
     }

@@ -2,7 +2,7 @@ use Rattle.std.proofs.Common.{map, length}
 use Rattle.lexical_tables.specs.Codes.{AreCodes}
 use Rattle.lexical_tables.specs.Ends.{AreEndsIf}
 use Rattle.lexical_tables.proofs.skipped.Skipping.{IsSkipping}
-use Rattle.lexical_tables.proofs.skipping.skip_rows.Given as goal
+use Rattle.lexical_tables.proofs.skipping.skip_coded_rows.Given as goal
 
 -- so many right rows and bad ones were read
 abbrev pub invariant-loop-count : goal.invariant-loop-count

@@ -2,7 +2,7 @@ use Rattle.std.proofs.Common.{◌≡◌, ◌-◌, None, map}
 use Rattle.lexical_tables.specs.Codes.{AreCodes}
 use Rattle.lexical_tables.specs.Ends.{AreEnds}
 use Rattle.lexical_tables.proofs.ColumnTables.{IsTablePut}
-use Rattle.lexical_tables.proofs.pass.read_rows.Given as goal
+use Rattle.lexical_tables.proofs.marked_rows.read_coded_rows.Given as goal
 
 -- so many rows were read
 abbrev pub invariant-loop-count : goal.invariant-loop-count

@@ -5,8 +5,8 @@ use Rattle.lexical_tables.specs.Rows.{behind_piece, first_row}
 use Rattle.lexical_tables.proofs.CodeSteps.{codes_put_row}
 use Rattle.lexical_tables.proofs.ColumnTables.{row_usable, table_ends, table_fault, table_goes}
 use Rattle.lexical_tables.proofs.RowSteps.{behind_shorter, skip_starts}
-use Rattle.lexical_tables.proofs.pass.read_rows.Goals.{then-loop-count-test+else-not-is_empty, else-loop-count-test, then-not-behind+in_default, else-not-behind}
-use Rattle.lexical_tables.proofs.pass.read_rows.Goals as goal
+use Rattle.lexical_tables.proofs.marked_rows.read_coded_rows.Goals.{then-loop-count-test+else-not-is_empty, else-loop-count-test, then-not-behind+in_default, else-not-behind}
+use Rattle.lexical_tables.proofs.marked_rows.read_coded_rows.Goals as goal
 
 pub read_marked_row-behind-requires-clause-usable : goal.read_marked_row-behind-requires-clause-usable
 read_marked_row-behind-requires-clause-usable g c =
@@ -51,8 +51,8 @@ loop-count-preserved g c =
           (record { within = empty.within; tail = empty.tail; rows_are = empty.rows })
           (map g.C.TableColumn.target c.read_marked_row-behind.new.targets) told.targets (sym told.fault ∙ fine) empty.first,
       empty.marks,
-      subst (AreCodes d c.put_codes.new.codes) (sym told.targets)
-          (codes_put_row d c.put_codes.new.codes c.loop-count.count _ (map g.C.TableColumn.target c.loop-count.targets)
+      subst (AreCodes d c.args.codes.now) (sym told.targets)
+          (codes_put_row d c.args.codes.now c.loop-count.count _ (map g.C.TableColumn.target c.loop-count.targets)
           c.loop-count.invariant.2),
       fine,
     )
