@@ -223,7 +223,9 @@ def lines_of(seen: Seen) -> list[str]:
 
 def table(seen: Seen, unit: str) -> list[str]:
     """The same as a table, relative to from_chars. Not each reader reads all texts."""
-    peers = [peer for peer in next(iter(seen.values())) if peer != "from_chars"]
+    # Each reader once, in the order in which they come first.
+    peers = [peer for peer in dict.fromkeys(itertools.chain(*seen.values()))
+             if peer != "from_chars"]
     rows = []
     for name, found in seen.items():
         one = found["from_chars"]

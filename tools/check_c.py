@@ -339,33 +339,60 @@ def serde(place: Place) -> str:
     return f"{sum(map(int, re.findall(r'ok. ([0-9]+) passed', said)))} tests"
 
 
-def environment_of_python(place: Place, packed: str) -> Dict[str, str]:
-    """The environment in which Python builds the binding, and finds it where it is unpacked."""
-    paths = [packed, *filter(None, [os.environ.get("PYTHONPATH")])]
-    return {**os.environ, "JADVOLNI_LIBRARY": place.library("libjadvolni.a"),
-            "PYTHONDONTWRITEBYTECODE": "1", "PYTHONPATH": os.pathsep.join(paths)}
+# The binding's tests of what is hostile, or asks most of memory: sanitizers see what they touch.
+WATCHED = ["test_amounts", "test_arrow", "test_header", "test_hostile", "test_literals",
+           "test_tables", "test_texts"]
 
 
-def python(place: Place) -> str:
-    """The tests of the binding for Python, over the module as its wheel has it."""
+def binding_for_python(place: Place, folder: str, flags: str) -> Dict[str, str]:
+    """Makes the module as its wheel has it, in a folder: the environment in which Python finds it.
+    """
     needs("cc")
     if sys.version_info < (3, 11):
         raise Skipped("it needs Python 3.11")
     if not os.path.exists(os.path.join(sysconfig.get_paths()["include"], "Python.h")):
         raise Skipped("Python's headers are not installed")
-    binding, packed = source("bindings", "python"), place.path("python")
-    where = environment_of_python(place, packed)
+    packed = place.path(folder)
+    paths = [packed, *filter(None, [os.environ.get("PYTHONPATH")])]
+    where = {**os.environ, "JADVOLNI_LIBRARY": place.library("libjadvolni.a"),
+             "PYTHONDONTWRITEBYTECODE": "1", "PYTHONPATH": os.pathsep.join(paths)}
     os.makedirs(packed)
     wheel = "import sys, build_wheel; build_wheel.build_wheel(sys.argv[1])"
-    run([sys.executable, "-c", wheel, packed], where, binding)
+    built = {**where, "CFLAGS": f"{os.environ.get('CFLAGS', '')} {flags}"}
+    run([sys.executable, "-c", wheel, packed], built, source("bindings", "python"))
     for name in os.listdir(packed):
         shutil.unpack_archive(os.path.join(packed, name), packed, "zip")
-    tests = ["-m", "unittest", "discover", "-s", os.path.join(binding, "tests")]
-    done = subprocess.run([sys.executable, "-W", "error", *tests], capture_output=True, text=True,
-                          timeout=900, env=where)
+    return where
+
+
+def tests_of_python(where: Dict[str, str], tests: List[str]) -> str:
+    """Runs tests of the binding: how many there were, and how they ended."""
+    done = subprocess.run([sys.executable, "-W", "error", "-m", "unittest", *tests], timeout=900,
+                          capture_output=True, text=True, env=where,
+                          cwd=source("bindings", "python", "tests"))
     if done.returncode or "Ran 0 tests" in done.stderr:
         raise Failed(done.stderr)
     return "; ".join(done.stderr.strip().splitlines()[-3::2])
+
+
+def python(place: Place) -> str:
+    """The tests of the binding for Python."""
+    return tests_of_python(binding_for_python(place, "python", ""), ["discover"])
+
+
+def python_sanitized(place: Place) -> str:
+    """Some of them, over an extension that sanitizers watch."""
+    needs("cc")
+    libraries = [run(["cc", f"-print-file-name={name}.so"]).strip()
+                 for name in ("libasan", "libubsan")]
+    if not all(map(os.path.isabs, libraries)):
+        raise Skipped("cc has no sanitizers")
+    flags = "-g -O1 -fsanitize=address,undefined -fno-sanitize-recover=all"
+    where = binding_for_python(place, "python_sanitized", flags)
+    # (Python keeps memory to its end, and its own allocator would hide what is touched.)
+    options = {"LD_PRELOAD": " ".join(libraries), "PYTHONMALLOC": "malloc",
+               "ASAN_OPTIONS": "detect_leaks=0:allocator_may_return_null=1"}
+    return tests_of_python({**where, **options}, WATCHED)
 
 
 # ---- all of them
@@ -397,6 +424,7 @@ def steps(place: Place) -> Iterator[Step]:
     yield "Rust", partial(cargo, place)
     yield "Rust and serde", partial(serde, place)
     yield "Python", partial(python, place)
+    yield "Python under sanitizers", partial(python_sanitized, place)
 
 
 def outcome_of(name: str, step: Callable[[], str]) -> str:

@@ -1,16 +1,19 @@
-"""What compilers say of calls that break the headers' conditions: a part of make test-c.
+"""What compilers say of calls that break a binding's conditions: a part of make test-c.
 
 The files of FILES, in tests/c, have such calls by number, and what each compiler has to say of it.
-Number 0 breaks none, and is compiled without a word; but a standard that is too old is told.
+Number 0 breaks none, and is compiled without a word; but a standard that is too old is told. So has
+tests/misuse.rs of the crate for Rust, whose compiler refuses them.
 """
 from __future__ import annotations
 
+import os
 import re
 import subprocess
 from functools import partial
 from typing import Iterator
 
-from callers import C_COMPILERS, CXX17, OPTIMISED, Failed, Place, Step, needs, source, text_of
+from callers import (C_COMPILERS, CXX17, OPTIMISED, Failed, Place, Step, needs, run, source,
+                     text_of)
 
 FILES = {"misuse.c": ["-std=c99"], "any_integer.c": ["-std=c11"],
          "misuse.cpp": [CXX17, "-Wold-style-cast"]}
@@ -42,7 +45,34 @@ def misuses(place: Place, compiler: str) -> str:
     return f"{len(asked)} misuses"
 
 
+def said_of_rust(place: Place, misuse: str) -> str:
+    """What the compiler of Rust says of the call with that number."""
+    built = place.path(os.path.join("target", "debug"))
+    command = ["rustc", "--edition=2021", "--crate-type=lib", "--emit=metadata",
+               f'--cfg=misuse="{misuse}"', "--extern", f"jadvolni={built}/libjadvolni.rlib",
+               f"-Ldependency={built}/deps", source("tests", "misuse.rs"), "-o", place.path("x")]
+    return subprocess.run(command, capture_output=True, text=True, timeout=60).stderr
+
+
+def misuses_of_rust(place: Place) -> str:
+    """The compiler of Rust refuses each misuse, and nothing else."""
+    needs("cargo", "rustc")
+    where = {**os.environ, "JADVOLNI_LIB_DIR": place.libraries,
+             "CARGO_TARGET_DIR": place.path("target")}
+    run(["cargo", "build", "--offline", "--locked", "--quiet", "--all-features"], where,
+        source("bindings", "rust"))
+    if said := said_of_rust(place, "0"):
+        raise Failed(said)
+    asked = re.findall(r'misuse = "(\d+)"\)\] // (\w+)', text_of("tests", "misuse.rs"))
+    for misuse, wanted in asked:
+        said = said_of_rust(place, misuse)
+        if wanted not in said:
+            raise Failed(f"misuse.rs {misuse} lacks {wanted}:\n{said}")
+    return f"{len(asked)} misuses"
+
+
 def steps(place: Place) -> Iterator[Step]:
     """A step for each compiler."""
     for compiler in C_COMPILERS:
         yield f"misuse of calls, {compiler}", partial(misuses, place, compiler)
+    yield "misuse of calls, rustc", partial(misuses_of_rust, place)

@@ -8,6 +8,7 @@ import itertools
 import pickle
 import random
 import tempfile
+import tracemalloc
 import unittest
 
 import arrow_consumer as consumer
@@ -54,6 +55,21 @@ class Texts(unittest.TestCase):
                 self.assertEqual(table["cents"].tolist(), [int(it) for _, it in rows])
                 found = iter_table(io.BytesIO(text), BOTH, size=size + 99, rows=7, **given)
                 self.assertEqual([it for part in found for it in part["what"]], wanted)
+
+    def test_memory_grows_with_the_rows_of_a_block(self):
+        """Places of texts take none for rows that other blocks of the file may have."""
+        text, columns = b"a,b,c,d\n" * 500_000, dict.fromkeys("abcd", Text())
+        with tempfile.NamedTemporaryFile() as file:
+            file.write(text)
+            file.flush()
+            tracemalloc.start()
+            try:
+                table = read_table(file.name, columns, threads=1)
+                peak = tracemalloc.get_traced_memory()[1]
+            finally:
+                tracemalloc.stop()
+        self.assertEqual(table["d"][-1], "d")
+        self.assertLess(peak, 14 * len(text))
 
     def test_each_way_of_a_file(self):
         text = b"cents,when,what\n1,2024-02-29,rent\n2,2024-03-01,\n"

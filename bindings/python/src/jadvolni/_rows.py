@@ -70,17 +70,17 @@ class Rows:
         """
         size = _text_size(text)
         while True:
-            self._make_room(size - place, behind)
-            length, is_end = self._parse(text, place, part)
+            rows = self._make_room(size - place, behind)
+            length, is_end = self._parse(text, place, part, rows)
             place += length
             if is_end or self.is_full():
                 return place
 
-    def _parse(self, text: Text, place: int, part: Part) -> tuple[int, bool]:
-        """Reads the rows that have room. Returns their length in bytes, and whether that is all."""
+    def _parse(self, text: Text, place: int, part: Part, rows: int) -> tuple[int, bool]:
+        """Reads at most `rows` rows. Returns their length in bytes, and whether that is all."""
         told = self.reader.told - len(self.kept) if self.kept else self.reader.told
         count, length, bad, faults, is_end = self.reader.parse(
-            text, place, self.arrays, self.count, self.room - self.count, told)
+            text, place, self.arrays, self.count, rows, told)
         if faults:
             self._tell([self.reader.fault(it, text, part, self.end) for it in faults])
         self.count, self.bad, self.size = self.count + count, self.bad + bad, self.size + length
@@ -109,12 +109,14 @@ class Rows:
         most = self.count * (_FOLD if self.reader.numpy else _FOLD_OF_ARRAY)
         return min(int(size * self.reader.rate * 1.125), most) + _FEW
 
-    def _make_room(self, size: int, behind: int) -> None:
-        """Makes room for rows of `size` bytes, for some or all, going by those before them."""
+    def _make_room(self, size: int, behind: int) -> int:
+        """Makes room for rows of `size` bytes, for some or all, going by those before them. Returns
+        for how many: places of texts take memory for each."""
         most = min(size // self.reader.least + 1, self.most - self.count)
         wanted = min(most, self._guess(size) if self.reader.rate else _FIRST)
         if wanted > self.room - self.count or self.room == self.count < self.most:
             self.grow(max(wanted, self._guess(size + behind) if behind else 0, self.count // 2))
+        return wanted
 
     def grow(self, rows: int) -> None:
         """Makes room for `rows` more rows."""

@@ -133,7 +133,7 @@ class TextColumn(Sequence["Cell"]):
         import pandas
 
         seen: dict[Cell, Cell] = {}  # (so that equal texts are one object)
-        return pandas.Categorical([seen.setdefault(it, it) for it in self])
+        return pandas.Categorical([seen.setdefault(it, it) for it in self.tolist()])
 
     def for_arrow(self) -> tuple[str, Any, Any, bytearray]:
         """Arrow's code for the texts, which are UTF-8 or any bytes, and the arrays of the column.
@@ -146,11 +146,12 @@ class TextColumn(Sequence["Cell"]):
         is_utf8 = codecs.lookup(self.encoding).name == "utf-8"
         if is_utf8 and self.data.isascii():
             return "U", self.offsets, self.bits, self.data
-        texts = [str(it or "").encode() for it in self]
+        texts = self.tolist()
         if is_utf8:
             return "U", self.offsets, self.bits, self.data
-        sizes = array("q", map(len, texts))
-        return "U", offsets_of(sizes), self.bits, bytearray(b"".join(texts))
+        encoded = [str(it or "").encode() for it in texts]
+        sizes = array("q", map(len, encoded))
+        return "U", offsets_of(sizes), self.bits, bytearray(b"".join(encoded))
 
     def __arrow_c_schema__(self) -> object:
         return Arrow({"": self}, False).__arrow_c_schema__()
