@@ -111,7 +111,7 @@ impl ColumnFields<'_> {
     }
 
     // Puts the number of a text that isn't had at once into a row's place, or tells the text's fault. Under the standard
-    // format, as most columns have it, it isn't tried at once again.
+    // format, as most columns have it, it isn't tried at once again; under another one it wasn't tried.
     #[inline(always)]
     fn put_parsed_number(
         &mut self,
@@ -155,7 +155,7 @@ impl ColumnFields<'_> {
             return self.put_fixed_at_once(row, ahead, size);
         }
         if !self.is_standard() {
-            return self.put_in_radix_at_once(row, ahead, size);
+            return false;
         }
         self.put_standard_at_once(row, ahead, size)
     }
@@ -267,7 +267,7 @@ impl TableColumn for ColumnFields<'_> {
         self.read_left(row, start, text, ahead, options)
     }
 
-    // Of other formats, it has those that are standard but for the radix.
+    // A column of another format isn't tried: `read_left` makes that format, once.
     #[inline(always)]
     fn read_at_once(&mut self, row: usize, ahead: &[u8], size: usize) -> bool {
         if !self.put_number_at_once(row, ahead, size) {
@@ -319,11 +319,7 @@ impl TableColumn for ColumnFields<'_> {
         }
         let fields = &self.description.integer;
         if !fields.is_plain_decimal() {
-            return if fields.is_standard_but_radix() {
-                AT_ONCE
-            } else {
-                UNKNOWN
-            };
+            return UNKNOWN;
         }
         under_format(code, &fields.decimal_format())
     }
