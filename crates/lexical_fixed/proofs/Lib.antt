@@ -1,4 +1,5 @@
 -- The lemmas on fixed-point numbers. Some may be cited by the crates above.
+mod Appended
 mod DecimalParts
 pub mod Digits
 mod FaultPlaces

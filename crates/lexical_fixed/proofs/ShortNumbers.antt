@@ -1,7 +1,6 @@
 -- Digits around a point that has all places behind it are the number in units: for the shortest way.
-use Rattle.std.proofs.Common.{◌≡◌, ℕ, zero, suc, ◌+◌, ◌-◌, ◌*◌, ◌^◌, ◌≤◌, ◌<◌, Bool, true, false, cond, not, ◌&&◌, List, [], ◌∷◌, ◌++◌, length, get_or, take, drop, Option, Some, None, IsNone, is_some, option_and_then, Ok, refl, sym, ap, subst, ◌∙◌, arith, inl, inr, ◌⊎◌, map}
+use Rattle.std.proofs.Common.{◌≡◌, ℕ, zero, suc, ◌+◌, ◌-◌, ◌*◌, ◌^◌, ◌≤◌, ◌<◌, Bool, true, false, cond, not, ◌&&◌, List, [], ◌∷◌, ◌++◌, length, get_or, take, drop, Option, Some, None, IsNone, is_some, option_and_then, Ok, refl, sym, ap, subst, ◌∙◌, arith, inl, inr, ◌⊎◌}
 use Rattle.std.proofs.Math.IntN.{ℤ, pos}
-use Rattle.std.proofs.Math.Seq.{take-length}
 use Rattle.std.proofs.Math.Nat.{one-le-pow, mul-le-mul_left, pow-le-pow_right}
 use Rattle.std.specs.Prelude.{◌==◌, if◌then◌else◌, neg_ℤ, IfSome, slice_get, slice_range}
 use Rattle.std.proofs.lemmas.Bool.{eqb-true, lt-ltb}
@@ -33,7 +32,7 @@ use Rattle.lexical_fixed.specs.Validity.{fixed_fault, fixed_fault_by, has_affix,
 use Rattle.lexical_fixed.specs.declared.error.FixedFormatError.{FixedFormatError}
 use Rattle.lexical_fixed.specs.declared.error.FixedFormatError.TheVariants.{Affix, Point, Radix}
 use Rattle.lexical_fixed.proofs.Digits.{is_number-below}
-use Rattle.lexical_fixed.proofs.LastFractions.{ends_at_end, have_values, last_ends, none_at_end}
+use Rattle.lexical_fixed.proofs.LastFractions.{ends_at_end, last_ends, none_at_end, standing_joined}
 use Rattle.lexical_fixed.proofs.QuickDigits.{no_zeros, zeros_joined}
 use Rattle.lexical_fixed.proofs.QuickFronts.{few_digits, front_joined, partial_by_part}
 use Rattle.lexical_fixed.proofs.QuickParts.{decimal_of, first_false, part_by_front, second_false}
@@ -203,12 +202,6 @@ filled_read f t b text digits units valid bare law behind minus it =
     refl (inr it.takes) (inr (it.filled, it.fits))
 
 -- ---- digits without a point
-
--- digits that stand for a value are its digits
-standing_joined : (t : IntegerType) (b : Bool) (bytes : List ℕ) (value : ℤ) → (s : StandsFor t 10 b bytes value) → IsJoined bytes (positional_value 10 s.writes.values)
-standing_joined t b bytes value s =
-    let have = have_values bytes s.writes.values (ap (map (λ byte. digit 10 byte)) (sym (take-length bytes)) ∙ s.writes.digits) in
-    record { digits = have.digits; worth = ap (positional_value 10) (sym have.worth) }
 
 -- digits that stand for a value are digits
 digits_stand : (t : IntegerType) (b : Bool) (bytes : List ℕ) (value : ℤ) → StandsFor t 10 b bytes value → AreDigits 10 bytes

@@ -1,4 +1,5 @@
 -- The definitions that contracts name, a file for each subject.
+pub mod Append
 pub mod Computed
 pub mod Fixed
 pub mod Fraction

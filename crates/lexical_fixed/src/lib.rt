@@ -2,6 +2,7 @@
 #![tactic(auto)]
 
 mod api;
+mod append;
 pub mod error;
 pub mod format;
 mod fraction;
