@@ -9,6 +9,7 @@ mod FrontByWhole
 mod IntegerParts
 mod JoinedDigits
 mod LastFractions
+mod PartedTexts
 mod Places
 mod QuickDigits
 mod QuickFronts

@@ -59,7 +59,7 @@ point_no_digit f valid = by_fault (fault f.integer) valid
     by_fault (Some error) valid = absurd (cc)
 
 -- the byte that stands at a place
-byte_there : (byte : ℕ) (bytes : List ℕ) (place : ℕ) → are_same (Some byte) (slice_get bytes place) ≡ true → get_or bytes place 0 ≡ byte
+pub byte_there : (byte : ℕ) (bytes : List ℕ) (place : ℕ) → are_same (Some byte) (slice_get bytes place) ≡ true → get_or bytes place 0 ≡ byte
 unfolding are_same
 byte_there byte [] place some = cc
 byte_there byte (b ∷ bs) zero some = eqb-true b byte some
@@ -73,15 +73,15 @@ stands_there byte (b ∷ bs) (suc n) within same = stands_there byte bs n (omega
 
 -- ---- behind a minus or none
 
-behind_get : (b : Bool) (t : IntegerType) (text digits : List ℕ) (place : ℕ) → IsBehind b t text digits → slice_get text (bool_byte b + place) ≡ slice_get digits place
+pub behind_get : (b : Bool) (t : IntegerType) (text digits : List ℕ) (place : ℕ) → IsBehind b t text digits → slice_get text (bool_byte b + place) ≡ slice_get digits place
 behind_get false t text digits place same = let e : 0 + place ≡ place = omega arith in ap (slice_get text) e ∙ ap (λ (bs : List ℕ). slice_get bs place) same
 behind_get true t text digits place same = let e : 1 + place ≡ suc place = omega arith in ap (slice_get text) e ∙ ap (λ (bs : List ℕ). slice_get bs (suc place)) same.0
 
-behind_drop : (b : Bool) (t : IntegerType) (text digits : List ℕ) (place : ℕ) → IsBehind b t text digits → drop (bool_byte b + place) text ≡ drop place digits
+pub behind_drop : (b : Bool) (t : IntegerType) (text digits : List ℕ) (place : ℕ) → IsBehind b t text digits → drop (bool_byte b + place) text ≡ drop place digits
 behind_drop false t text digits place same = let e : 0 + place ≡ place = omega arith in ap (λ k. drop k text) e ∙ ap (λ (bs : List ℕ). drop place bs) same
 behind_drop true t text digits place same = let e : 1 + place ≡ suc place = omega arith in ap (λ k. drop k text) e ∙ ap (λ (bs : List ℕ). drop (suc place) bs) same.0
 
-behind_length : (b : Bool) (t : IntegerType) (text digits : List ℕ) → IsBehind b t text digits → length text ≡ bool_byte b + length digits
+pub behind_length : (b : Bool) (t : IntegerType) (text digits : List ℕ) → IsBehind b t text digits → length text ≡ bool_byte b + length digits
 behind_length false t text digits same = ap length same ∙ omega arith
 behind_length true t text digits same = ap length same.0 ∙ omega arith
 
@@ -104,7 +104,7 @@ digit_there (b ∷ bs) zero within digits = digits.0
 digit_there (b ∷ bs) (suc n) within digits = digit_there bs n (omega arith) digits.1
 
 -- a digit stands before a place
-ends_with_digit : (b : Bool) (t : IntegerType) (text digits : List ℕ) (place : ℕ) → IsBehind b t text digits → 1 ≤ place → place ≤ length digits → AreDigits 10 (take place digits) → stops_after_digit 10 text (bool_byte b + place) ≡ true
+pub ends_with_digit : (b : Bool) (t : IntegerType) (text digits : List ℕ) (place : ℕ) → IsBehind b t text digits → 1 ≤ place → place ≤ length digits → AreDigits 10 (take place digits) → stops_after_digit 10 text (bool_byte b + place) ≡ true
 unfolding digit_at
 ends_with_digit b t text digits zero behind some within all = absurd (omega arith)
 ends_with_digit b t text digits (suc n) behind some within all =
@@ -126,7 +126,7 @@ all_first bytes number few digits worth =
 
 -- ---- the number
 
-plain_of : (f : Fixed) → IsNone (fixed_fault f) → IsBare f.integer → IsPlain f.integer
+pub plain_of : (f : Fixed) → IsNone (fixed_fault f) → IsBare f.integer → IsPlain f.integer
 plain_of f valid bare =
     let d = decimal_of f valid in
     record {

@@ -4,5 +4,6 @@ pub mod Computed
 pub mod Fixed
 pub mod Fraction
 pub mod Grammar
+pub mod Parted
 pub mod Quick
 pub mod Validity

@@ -9,6 +9,7 @@ mod fraction;
 mod joined;
 pub mod laws;
 mod parse;
+mod parted;
 pub mod quick;
 mod short;
 

@@ -11,6 +11,7 @@ ghost use Rattle.lexical_fixed.specs.Validity.{fixed_fault};
 
 use crate::format::FixedFormat;
 use crate::fraction::{digits_behind, fraction, has_point_at, read_digits, read_zeros};
+use crate::parted::whole_at_once;
 use crate::quick::{front_at_once, plain_part, value_if_short};
 use lexical_parse_integer::parse::ParseInteger;
 use lexical_parse_integer::{number_in_front, options};
@@ -223,7 +224,10 @@ pub fn complete_if_not_short<T: Integer>(text: &[u8], format: &FixedFormat) -> R
     requires valid { IsNone (fixed_fault format.now) }
     ensures { view_of T.number result ≡ complete_fixed format.now T.TYPE text.now }
 {
-    read_whole::<T>(text, format)
+    match whole_at_once::<T>(text, format) {
+        Some(units) => Ok(units),
+        None => read_whole::<T>(text, format),
+    }
 }
 
 // The same out of line, so that a short text pays for none of it.
