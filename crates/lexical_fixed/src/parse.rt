@@ -218,6 +218,19 @@ pub(crate) fn read_whole<T: Integer>(text: &[u8], format: &FixedFormat) -> Resul
     }
 }
 
+/// The number in front of the text and the place at which reading stops, for a text that `front_at_once` has left.
+#[tactic(auto, unfolding(crate::specs::Grammar::partial_fixed))]
+#[inline(never)]
+pub fn partial_if_left<T: Integer>(text: &[u8], format: &FixedFormat) -> Result<(T, usize)>
+    requires valid { IsNone (fixed_fault format.now) }
+    ensures { view_of (with_place T.number) result ≡ partial_fixed format.now T.TYPE text.now }
+{
+    match integer_part::<T>(text, format) {
+        Ok((whole, place)) => front_behind::<T>(text, format, whole, place),
+        Err(error) => Err(error),
+    }
+}
+
 /// The number that the whole text stands for, for a text that `value_if_short` has left.
 #[inline(always)]
 pub fn complete_if_not_short<T: Integer>(text: &[u8], format: &FixedFormat) -> Result<T>
@@ -237,19 +250,6 @@ fn read_not_short<T: Integer>(text: &[u8], format: &FixedFormat) -> Result<T>
     ensures { view_of T.number result ≡ complete_fixed format.now T.TYPE text.now }
 {
     complete_if_not_short::<T>(text, format)
-}
-
-/// The number in front of the text and the place at which reading stops, for a text that `front_at_once` has left.
-#[tactic(auto, unfolding(crate::specs::Grammar::partial_fixed))]
-#[inline(never)]
-pub fn partial_if_left<T: Integer>(text: &[u8], format: &FixedFormat) -> Result<(T, usize)>
-    requires valid { IsNone (fixed_fault format.now) }
-    ensures { view_of (with_place T.number) result ≡ partial_fixed format.now T.TYPE text.now }
-{
-    match integer_part::<T>(text, format) {
-        Ok((whole, place)) => front_behind::<T>(text, format, whole, place),
-        Err(error) => Err(error),
-    }
 }
 
 // What the whole text stands for.

@@ -8,7 +8,7 @@ ghost use Rattle.lexical_fixed.specs.Validity.{fixed_fault};
 use crate::append::append_digits;
 use crate::format::FixedFormat;
 use crate::fraction::read_zeros;
-use crate::short::{behind_minus, is_bare};
+use crate::short::{behind_minus, is_bare, value_of_fewer, value_of_whole};
 use lexical_digits::fronts::value_of_digits;
 use lexical_parse_integer::laws::grammar::front_digits;
 use lexical_util::num::Integer;
@@ -65,6 +65,14 @@ pub(crate) fn whole_at_once<T: Integer>(text: &[u8], format: &FixedFormat) -> Op
         return None;
     }
     let (is_negative, digits) = behind_minus::<T>(text);
+    if format.takes_fewer() && digits.len() <= 16 {
+        if let Some(units) = value_of_fewer::<T>(digits, format, is_negative) {
+            return Some(units);
+        }
+        if let Some(units) = value_of_whole::<T>(digits, format, is_negative) {
+            return Some(units);
+        }
+    }
     let Some(count) = digits_behind_point(digits, format) else {
         return None;
     };

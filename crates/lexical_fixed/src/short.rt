@@ -141,7 +141,11 @@ fn value_by_point<T: Integer>(digits: &[u8], place: usize, is_negative: bool) ->
 
 // The value of digits with fewer behind the point than there are places, where the description takes that.
 #[inline(always)]
-fn value_of_fewer<T: Integer>(digits: &[u8], format: &FixedFormat, is_negative: bool) -> Option<T>
+pub(crate) fn value_of_fewer<T: Integer>(
+    digits: &[u8],
+    format: &FixedFormat,
+    is_negative: bool,
+) -> Option<T>
     requires bits { 32 ≤ T.TYPE.bits }
     requires minus { IsTrue is_negative → IsTrue T.TYPE.is_signed }
     requires takes { format.now.takes_fewer ≡ true }
@@ -167,7 +171,11 @@ fn value_of_fewer<T: Integer>(digits: &[u8], format: &FixedFormat, is_negative: 
 
 // The value of up to sixteen digits without a point, where the description takes that.
 #[inline(always)]
-fn value_of_whole<T: Integer>(digits: &[u8], format: &FixedFormat, is_negative: bool) -> Option<T>
+pub(crate) fn value_of_whole<T: Integer>(
+    digits: &[u8],
+    format: &FixedFormat,
+    is_negative: bool,
+) -> Option<T>
     requires bits { 32 ≤ T.TYPE.bits }
     requires minus { IsTrue is_negative → IsTrue T.TYPE.is_signed }
     requires takes { format.now.takes_fewer ≡ true }
