@@ -16,10 +16,14 @@ use lexical_util::num::Integer;
 // How many digits stand behind the point, none where there is no point: as many as there are places, or fewer where the
 // description takes that.
 #[inline(always)]
-fn digits_behind_point(digits: &[u8], format: &FixedFormat) -> Option<usize>
+fn places_written(digits: &[u8], format: &FixedFormat) -> Option<usize>
     ensures { IfSome result (IsParted format.now digits.now) }
 {
     let size = digits.len();
+    // Most faults are bytes behind a number: then no digit is read in vain.
+    if size == 0 || !digits[size - 1].is_ascii_digit() {
+        return None;
+    }
     let places = format.places();
     let most = places.min(size.saturating_sub(2));
     let mut count = if format.takes_fewer() { 1 } else { places };
@@ -29,14 +33,15 @@ fn digits_behind_point(digits: &[u8], format: &FixedFormat) -> Option<usize>
         }
         count += 1;
     }
-    if digits.is_empty() || places > 0 && !format.takes_fewer() {
+    if places > 0 && !format.takes_fewer() {
         return None;
     }
     Some(0)
 }
 
-// The value of the digits of an integer part and a fraction of so many, as they are written.
-#[inline(always)]
+// The value of the digits of an integer part and a fraction of so many, as they are written. Out of line, so that short texts
+// don't pay for it.
+#[inline(never)]
 fn value_as_written<T: Integer>(digits: &[u8], count: usize, is_negative: bool) -> Option<T>
     requires bits { 32 ≤ T.TYPE.bits }
     requires minus { IsTrue is_negative → IsTrue T.TYPE.is_signed }
@@ -73,7 +78,7 @@ pub(crate) fn whole_at_once<T: Integer>(text: &[u8], format: &FixedFormat) -> Op
             return Some(units);
         }
     }
-    let Some(count) = digits_behind_point(digits, format) else {
+    let Some(count) = places_written(digits, format) else {
         return None;
     };
     let Some(written) = value_as_written::<T>(digits, count, is_negative) else {

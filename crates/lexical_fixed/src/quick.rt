@@ -1,8 +1,8 @@
 //! The parsers in two halves, under a valid description: for this crate, and for calls from C.
 //!
 //! The first half has at once what most texts are, and its `None` says nothing of a text. The second half, for what the first
-//! one left, has the answer. Up to fifteen digits around a point are read by one word or two. Other texts are read in one walk,
-//! where the integer part is digits alone and the fraction is short.
+//! one left, has the answer. Up to fifteen digits around a point are read by one word or two, and a longer text from its point.
+//! Fronts are read in one walk, where the integer part is digits alone and the fraction is short.
 ghost use Rattle.std.specs.Prelude.{◌≡◌, ◌==◌, ◌≤◌, ◌<◌, ◌+◌, ◌^◌, if◌then◌else◌, IfSome, IsNone, Ok, length, pos, true};
 ghost use Rattle.lexical_util.specs.Number.{HasSign, is_number, mul_add};
 ghost use Rattle.lexical_parse_integer.specs.Answer.{with_place};

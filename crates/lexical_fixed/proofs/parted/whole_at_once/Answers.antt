@@ -11,10 +11,10 @@ read_zeros-requires g c = record { sign = summed_sign _ _ _ _ _ c.in-Some-value_
 
 pub returns-in-Ok : goal.returns-in-Ok
 returns-in-Ok g c =
-    parted_read c.args.format.now g.T.Integer.TYPE _ c.args.text.now _ c.in-Some-digits_behind_point.count _ (g.T.Integer.number c.in-Ok.units) c.requires.valid
+    parted_read c.args.format.now g.T.Integer.TYPE _ c.args.text.now _ c.in-Some-places_written.count _ (g.T.Integer.number c.in-Ok.units) c.requires.valid
     (subst IsBare c.integer.ensures (c.is_bare.ensures c.if-not-is_bare.false)) (c.front_digits.ensures c.args.format.now.integer g.T.Integer.TYPE c.args.text.now)
-    c.behind_minus-is_negative.ensures.behind c.behind_minus-is_negative.ensures.minus c.in-Some-digits_behind_point.ensures c.in-Some-value_as_written.ensures
-    (c.in-Ok.ensures ∙ ap (λ n. read_zeros g.T.Integer.TYPE c.behind_minus-is_negative.result.0 (g.T.Integer.number c.in-Some-value_as_written.written) (n - c.in-Some-digits_behind_point.count) (length c.args.text.now)) c.places.ensures)
+    c.behind_minus-is_negative.ensures.behind c.behind_minus-is_negative.ensures.minus c.in-Some-places_written.ensures c.in-Some-value_as_written.ensures
+    (c.in-Ok.ensures ∙ ap (λ n. read_zeros g.T.Integer.TYPE c.behind_minus-is_negative.result.0 (g.T.Integer.number c.in-Some-value_as_written.written) (n - c.in-Some-places_written.count) (length c.args.text.now)) c.places.ensures)
 
 pub returns-in-Some : goal.returns-in-Some
 returns-in-Some g c =

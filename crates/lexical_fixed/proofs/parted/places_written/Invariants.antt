@@ -1,5 +1,5 @@
 use Rattle.std.proofs.Common.{◌≡◌, ◌≤◌, ◌-◌, ◌+◌, ◌⊎◌, true}
-use Rattle.lexical_fixed.proofs.parted.digits_behind_point.Given as goal
+use Rattle.lexical_fixed.proofs.parted.places_written.Given as goal
 
 -- so many digits are all places, or fewer are taken
 abbrev pub invariant-loop-count : goal.invariant-loop-count

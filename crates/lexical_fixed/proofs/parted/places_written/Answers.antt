@@ -1,6 +1,6 @@
 use Rattle.std.proofs.Common.{◌≡◌, ◌-◌, ◌∙◌, arith, get_or, length}
 use Rattle.lexical_fixed.proofs.ShortNumbers.{stands_there}
-use Rattle.lexical_fixed.proofs.parted.digits_behind_point.Goals as goal
+use Rattle.lexical_fixed.proofs.parted.places_written.Goals as goal
 
 pub returns-then-digits-size : goal.returns-then-digits-size
 returns-then-digits-size c =
