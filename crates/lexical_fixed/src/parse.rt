@@ -37,7 +37,7 @@ fn number_with_digit<T: Integer>(text: &[u8], format: &NumberFormat) -> Result<(
 
 // The integer part in front of a text, and the place behind it, for a text that `plain_part` has left.
 #[tactic(auto, unfolding(crate::specs::Grammar::integer_part))]
-#[inline(always)]
+#[inline(never)]
 fn part_by_format<T: Integer>(text: &[u8], format: &NumberFormat) -> Result<(T, usize)>
     requires valid { IsNone (fault format.now) }
     ensures answer { view_of (with_place T.number) result

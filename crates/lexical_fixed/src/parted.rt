@@ -39,9 +39,8 @@ fn places_written(digits: &[u8], format: &FixedFormat) -> Option<usize>
     Some(0)
 }
 
-// The value of the digits of an integer part and a fraction of so many, as they are written. Out of line, so that short texts
-// don't pay for it.
-#[inline(never)]
+// The value of the digits of an integer part and a fraction of so many, as they are written.
+#[inline(always)]
 fn value_as_written<T: Integer>(digits: &[u8], count: usize, is_negative: bool) -> Option<T>
     requires bits { 32 ≤ T.TYPE.bits }
     requires minus { IsTrue is_negative → IsTrue T.TYPE.is_signed }
@@ -57,8 +56,9 @@ fn value_as_written<T: Integer>(digits: &[u8], count: usize, is_negative: bool) 
     append_digits::<T>(whole, &digits[size - count..], is_negative)
 }
 
-/// The number that the whole text stands for.
-#[inline(always)]
+/// The number that the whole text stands for. Out of line, so that its callers stay small: it has a reader for each range of
+/// lengths.
+#[inline(never)]
 pub(crate) fn whole_at_once<T: Integer>(text: &[u8], format: &FixedFormat) -> Option<T>
     requires valid { IsNone (fixed_fault format.now) }
     ensures { IfSome result
