@@ -7,6 +7,7 @@ use Rattle.std.proofs.lemmas.Bool.{and_parts, false≢true, lt-ltb, ltb-true}
 use Rattle.std.specs.Prelude.{nat_lt, Ok, Err}
 use Rattle.std.proofs.lemmas.Int.{ints}
 use Rattle.std.proofs.lemmas.List.{take_more, length_push}
+use Rattle.std.proofs.lemmas.Nat.{pow-add}
 use Rattle.lexical_util.specs.Number.{HasSign, IntegerType, is_number, mul_add, number_if_fits, number_limit}
 use Rattle.lexical_digits.specs.Value.{with_sign}
 use Rattle.lexical_digits.specs.Words.{AreDigits, word_value}
@@ -177,19 +178,20 @@ zeros_sign t b v k now r =
     let n = size_of b v r.start in
     sign_held b now (n.size * 10 ^ k) (r.value ∙ ap (λ z. with_zeros z k) n.is ∙ times_is b n.size (10 ^ k))
 
-zero_more_is : (t : IntegerType) (b : Bool) (v : ℤ) (k : ℕ) (now : ℤ) → ZerosRead t b v k now → mul_add b now (pos 10) (pos 0) ≡ with_zeros v (k + 1)
-zero_more_is t b v k now r =
+zeros_more_are : (t : IntegerType) (b : Bool) (v : ℤ) (k count : ℕ) (now : ℤ) → ZerosRead t b v k now → mul_add b now (pos (10 ^ count)) (pos 0) ≡ with_zeros v (k + count)
+zeros_more_are t b v k count now r =
     let n = size_of b v r.start in
-    let one_more : k + 1 ≡ suc k = omega arith in
-    let power : 10 ^ (k + 1) ≡ 10 ^ k * 10 = ap (λ j. 10 ^ j) one_more ∙ pow-suc 10 k in
-    let sum : n.size * 10 ^ k * 10 + 0 ≡ n.size * 10 ^ (k + 1) = rw power (grind arith) in
-    ap (λ z. mul_add b z (pos 10) (pos 0)) (r.value ∙ ap (λ z. with_zeros z k) n.is ∙ times_is b n.size (10 ^ k)) ∙ with_sign-step b (n.size * 10 ^ k) 10 0
-    ∙ ap (with_sign b) sum ∙ sym (ap (λ z. with_zeros z (k + 1)) n.is ∙ times_is b n.size (10 ^ (k + 1)))
+    let power : 10 ^ (k + count) ≡ 10 ^ k * 10 ^ count = pow-add 10 k count in
+    let sum : n.size * 10 ^ k * 10 ^ count + 0 ≡ n.size * 10 ^ (k + count) = rw power (grind arith) in
+    ap (λ z. mul_add b z (pos (10 ^ count)) (pos 0)) (r.value ∙ ap (λ z. with_zeros z k) n.is ∙ times_is b n.size (10 ^ k)) ∙ with_sign-step b (n.size * 10 ^ k) (10 ^ count) 0
+    ∙ ap (with_sign b) sum ∙ sym (ap (λ z. with_zeros z (k + count)) n.is ∙ times_is b n.size (10 ^ (k + count)))
 
-pub zeros_more : (t : IntegerType) (b : Bool) (v : ℤ) (k : ℕ) (now next : ℤ) → ZerosRead t b v k now → ◌≡◌ {A = Option ℤ} (Some next) (number_if_fits t (mul_add b now (pos 10) (pos 0))) → ZerosRead t b v (k + 1) next
-zeros_more t b v k now next r e =
+-- so many zeros more
+pub zeros_more : (t : IntegerType) (b : Bool) (v : ℤ) (k count : ℕ) (now none next : ℤ) → ZerosRead t b v k now → none ≡ pos 0 → ◌≡◌ {A = Option ℤ} (Some next) (number_if_fits t (mul_add b now (pos (10 ^ count)) none)) → ZerosRead t b v (k + count) next
+zeros_more t b v k count now none next r is e =
     let told = some_told t next _ e in
-    record { start = r.start; value = told.0 ∙ zero_more_is t b v k now r; fits = λ l. ap (is_number t) told.0 ∙ told.1 }
+    let same = ap (λ z. mul_add b now (pos (10 ^ count)) z) is ∙ zeros_more_are t b v k count now r in
+    record { start = r.start; value = told.0 ∙ same; fits = λ l. ap (is_number t) told.0 ∙ told.1 }
 
 -- a number outside the type stays there
 outside_on : (t : IntegerType) (b : Bool) (v : ℤ) (j k : ℕ) → HasSign b v → j ≤ k → is_number t (with_zeros v j) ≡ false → is_number t (with_zeros v k) ≡ false
@@ -204,11 +206,13 @@ outside_on t b v j k s l out =
     by_test true e back = absurd (false≢true (sym out ∙ back e))
     by_test false e back = e
 
-pub zeros_leave : (t : IntegerType) (b : Bool) (v : ℤ) (k zeros place : ℕ) (now : ℤ) → ZerosRead t b v k now → k < zeros → ◌≡◌ {A = Option ℤ} None (number_if_fits t (mul_add b now (pos 10) (pos 0))) → Err (range_error b place) ≡ read_zeros t b v zeros place
+pub zeros_leave : (t : IntegerType) (b : Bool) (v : ℤ) (k count zeros place : ℕ) (now none : ℤ) → ZerosRead t b v k now → k + count ≤ zeros → 1 ≤ count → none ≡ pos 0 → ◌≡◌ {A = Option ℤ} None (number_if_fits t (mul_add b now (pos (10 ^ count)) none))
+    → Err (range_error b place) ≡ read_zeros t b v zeros place
 unfolding zeros_fault
-zeros_leave t b v k zeros place now r l e =
-    let out : is_number t (with_zeros v (k + 1)) ≡ false = ap (is_number t) (sym (zero_more_is t b v k now r)) ∙ none_told t _ e in
-    let last : is_number t (with_zeros v zeros) ≡ false = outside_on t b v (k + 1) zeros r.start (omega arith) out in
+zeros_leave t b v k count zeros place now none r few more is e =
+    let same = ap (λ z. mul_add b now (pos (10 ^ count)) z) is ∙ zeros_more_are t b v k count now r in
+    let out : is_number t (with_zeros v (k + count)) ≡ false = ap (is_number t) (sym same) ∙ none_told t _ e in
+    let last : is_number t (with_zeros v zeros) ≡ false = outside_on t b v (k + count) zeros r.start few out in
     let some : nat_lt 0 zeros ≡ true = lt-ltb 0 zeros (omega arith) in
     rw (some, last) refl
 

@@ -1,7 +1,6 @@
 -- A fraction that goes to the text's end, by the number that its digits stand for: for the quick way.
-use Rattle.std.proofs.Common.{◌≡◌, ℕ, zero, suc, ◌+◌, ◌-◌, ◌^◌, ◌≤◌, ◌<◌, true, false, List, [], ◌∷◌, length, take, map, Some, None, is_some, refl, sym, ap, subst, ◌∙◌, arith}
-use Rattle.std.proofs.Math.IntN.{pos}
-use Rattle.std.proofs.Math.Nat.{pow-le-pow_right}
+use Rattle.std.proofs.Common.{◌≡◌, ℕ, zero, suc, ◌+◌, ◌-◌, ◌≤◌, ◌<◌, Bool, true, false, List, [], ◌∷◌, length, map, Some, None, is_some, refl, sym, ap, ◌∙◌, arith}
+use Rattle.std.proofs.Math.IntN.{ℤ, pos}
 use Rattle.std.proofs.Math.Seq.{take-length}
 use Rattle.std.proofs.lemmas.Bool.Decides.{nat_tests}
 use Rattle.std.proofs.lemmas.List.{length-drop}
@@ -10,16 +9,15 @@ use Rattle.std.specs.Prelude.{◌==◌, slice_get, slice_range}
 use Rattle.lexical_util.specs.Digit.{digit}
 use Rattle.lexical_util.specs.Number.{IntegerType}
 use Rattle.lexical_digits.specs.Value.{positional_value}
-use Rattle.lexical_digits.specs.Words.{AreDigits, word_value}
-use Rattle.lexical_digits.specs.WrittenNumbers.{StandsFor, WritesFirst}
+use Rattle.lexical_digits.specs.Words.{AreDigits}
+use Rattle.lexical_digits.specs.WrittenNumbers.{StandsFor}
 use Rattle.lexical_digits.proofs.AsciiDigits.{digit_from, digit_to}
 use Rattle.lexical_digits.proofs.WordsInFront.{rest_is}
-use Rattle.lexical_digits.proofs.WordsOfDigits.{digits_below, raised_none}
 use Rattle.lexical_parse_integer.specs.Runs.{are_same}
 use Rattle.lexical_fixed.specs.Fixed.{Fixed}
 use Rattle.lexical_fixed.specs.Fraction.{front_end}
 use Rattle.lexical_fixed.specs.Quick.{IsFraction, IsJoined}
-use Rattle.lexical_fixed.proofs.QuickFronts.{few_digits, no_point}
+use Rattle.lexical_fixed.proofs.QuickFronts.{no_point}
 
 -- bytes that have values are digits, worth these
 pub record HaveValues (bytes values : List ℕ) : Type 0 where
@@ -39,6 +37,12 @@ have_values (b ∷ bs) (v ∷ vs) same =
     let worth : b - 48 ≡ v = grind (arith, first, value) in
     record { digits = (is, rest.digits); worth = rw worth (ap (λ (all : List ℕ). v ∷ all) rest.worth) }
 
+-- digits that stand for a value are its digits
+pub standing_joined : (t : IntegerType) (b : Bool) (bytes : List ℕ) (value : ℤ) → (s : StandsFor t 10 b bytes value) → IsJoined bytes (positional_value 10 s.writes.values)
+standing_joined t b bytes value s =
+    let have = have_values bytes s.writes.values (ap (map (λ byte. digit 10 byte)) (sym (take-length bytes)) ∙ s.writes.digits) in
+    record { digits = have.digits; worth = ap (positional_value 10) (sym have.worth) }
+
 -- bytes that stand for a number are its digits
 pub joined_digits : (t : IntegerType) (bytes : List ℕ) (number : ℕ) → StandsFor t 10 false bytes (pos number) → IsJoined bytes number
 joined_digits t bytes number s =
@@ -52,21 +56,6 @@ joined_digits t bytes number s =
       worth = number_is ∙ ap (positional_value 10) (sym have.worth);
     }
 
--- the first digits are all of the text
-pub first_digits : (t : IntegerType) (bytes : List ℕ) (number : ℕ) → length bytes ≤ 4 → StandsFor t 10 false bytes (pos number) → WritesFirst bytes number (length bytes)
-first_digits t bytes number few s =
-    let all = joined_digits t bytes number s in
-    let taken = raised_none (take (length bytes) bytes) ∙ take-length bytes in
-    record {
-      few = omega arith;
-      within = omega arith;
-      writes = record {
-        digits = subst (λ (all : List ℕ). AreDigits 10 all) (sym taken) all.digits;
-        worth = all.worth ∙ ap (word_value 10) (sym taken);
-      };
-      stops = λ less more. absurd (omega arith);
-    }
-
 -- at the text's end there is no fraction
 pub none_at_end : (f : Fixed) (text : List ℕ) (place : ℕ) → place ≡ length text → IsFraction f text place 0 0
 unfolding are_same
@@ -77,20 +66,7 @@ none_at_end f text place end =
 pub ends_at_end : (f : Fixed) (text : List ℕ) (place : ℕ) → place ≡ length text → front_end f text place ≡ length text
 ends_at_end f text place end = (none_at_end f text place end).ends ∙ end
 
--- digits up to the end are the fraction
-pub last_digits : (f : Fixed) (t : IntegerType) (text : List ℕ) (place number count : ℕ) → are_same (Some f.point) (slice_get text place) ≡ true
-    → count ≡ length (slice_range text (place + 1) (length text)) → 1 ≤ count → count ≤ 4 → count ≤ f.places → StandsFor t 10 false (slice_range text (place + 1) (length text)) (pos number)
-    → IsFraction f text place number count
-last_digits f t text place number count some size more few room s =
-    let rest : List ℕ = slice_range text (place + 1) (length text) in
-    let first : WritesFirst rest number (length rest) = first_digits t rest number (omega arith) s in
-    let same : WritesFirst rest number count = subst (λ (n : ℕ). WritesFirst rest number n) (sym size) first in
-    let below = digits_below (take (length rest) rest) number (subst (λ (all : List ℕ). AreDigits 10 all) (raised_none (take (length rest) rest)) first.writes.digits) (first.writes.worth ∙ ap (word_value 10) (raised_none (take (length rest) rest))) in
-    let all : length (take (length rest) rest) ≡ length rest = ap (λ (bytes : List ℕ). length bytes) (take-length rest) in
-    let short : length (take (length rest) rest) ≤ 4 = omega (arith, all, size, few) in
-    let most : 10 ^ length (take (length rest) rest) ≤ 10 ^ 4 = pow-le-pow_right {n = 10} (omega arith) short in
-    few_digits f text place number count some same more (omega arith) room (omega (arith, below, most))
-
+-- a fraction up to the text's end ends the front there
 pub last_ends : (f : Fixed) (text : List ℕ) (place number count : ℕ) → IsFraction f text place number count → 1 ≤ count → place < length text → count ≡ length (slice_range text (place + 1) (length text)) → front_end f text place ≡ length text
 last_ends f text place number zero x more within size = absurd (omega arith)
 last_ends f text place number (suc n) x more within size =

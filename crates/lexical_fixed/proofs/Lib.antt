@@ -1,4 +1,5 @@
 -- The lemmas on fixed-point numbers. Some may be cited by the crates above.
+mod Appended
 mod DecimalParts
 pub mod Digits
 mod FaultPlaces
@@ -8,6 +9,7 @@ mod FrontByWhole
 mod IntegerParts
 mod JoinedDigits
 mod LastFractions
+mod PartedTexts
 mod Places
 mod QuickDigits
 mod QuickFronts

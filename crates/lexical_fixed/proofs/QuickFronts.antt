@@ -80,7 +80,7 @@ few_digits f text place number count some first more few room small =
 -- ---- the number in units
 
 -- where no place is left, or fewer are taken, no place lacks
-lacks_none : (f : Fixed) (text : List ℕ) (place count : ℕ) → fraction_length f text place ≡ count → (f.places ≤ count) ⊎ (f.takes_fewer ≡ true) → lacks_places f text place ≡ false
+pub lacks_none : (f : Fixed) (text : List ℕ) (place count : ℕ) → fraction_length f text place ≡ count → (f.places ≤ count) ⊎ (f.takes_fewer ≡ true) → lacks_places f text place ≡ false
 unfolding lacks_places
 lacks_none f text place count same (inl full) = rw (same, le-ltb count f.places full) (and_no (not f.takes_fewer))
 lacks_none f text place count same (inr takes) = rw takes refl

@@ -1,7 +1,6 @@
 -- Digits around a point that has all places behind it are the number in units: for the shortest way.
-use Rattle.std.proofs.Common.{◌≡◌, ℕ, zero, suc, ◌+◌, ◌-◌, ◌*◌, ◌^◌, ◌≤◌, ◌<◌, Bool, true, false, cond, not, ◌&&◌, List, [], ◌∷◌, ◌++◌, length, get_or, take, drop, Option, Some, None, IsNone, is_some, option_and_then, Ok, refl, sym, ap, subst, ◌∙◌, arith, inl, inr, ◌⊎◌, map}
+use Rattle.std.proofs.Common.{◌≡◌, ℕ, zero, suc, ◌+◌, ◌-◌, ◌*◌, ◌^◌, ◌≤◌, ◌<◌, Bool, true, false, cond, not, ◌&&◌, List, [], ◌∷◌, ◌++◌, length, get_or, take, drop, Option, Some, None, IsNone, is_some, option_and_then, Ok, refl, sym, ap, subst, ◌∙◌, arith, inl, inr, ◌⊎◌}
 use Rattle.std.proofs.Math.IntN.{ℤ, pos}
-use Rattle.std.proofs.Math.Seq.{take-length}
 use Rattle.std.proofs.Math.Nat.{one-le-pow, mul-le-mul_left, pow-le-pow_right}
 use Rattle.std.specs.Prelude.{◌==◌, if◌then◌else◌, neg_ℤ, IfSome, slice_get, slice_range}
 use Rattle.std.proofs.lemmas.Bool.{eqb-true, lt-ltb}
@@ -33,7 +32,7 @@ use Rattle.lexical_fixed.specs.Validity.{fixed_fault, fixed_fault_by, has_affix,
 use Rattle.lexical_fixed.specs.declared.error.FixedFormatError.{FixedFormatError}
 use Rattle.lexical_fixed.specs.declared.error.FixedFormatError.TheVariants.{Affix, Point, Radix}
 use Rattle.lexical_fixed.proofs.Digits.{is_number-below}
-use Rattle.lexical_fixed.proofs.LastFractions.{ends_at_end, have_values, last_ends, none_at_end}
+use Rattle.lexical_fixed.proofs.LastFractions.{ends_at_end, last_ends, none_at_end, standing_joined}
 use Rattle.lexical_fixed.proofs.QuickDigits.{no_zeros, zeros_joined}
 use Rattle.lexical_fixed.proofs.QuickFronts.{few_digits, front_joined, partial_by_part}
 use Rattle.lexical_fixed.proofs.QuickParts.{decimal_of, first_false, part_by_front, second_false}
@@ -60,7 +59,7 @@ point_no_digit f valid = by_fault (fault f.integer) valid
     by_fault (Some error) valid = absurd (cc)
 
 -- the byte that stands at a place
-byte_there : (byte : ℕ) (bytes : List ℕ) (place : ℕ) → are_same (Some byte) (slice_get bytes place) ≡ true → get_or bytes place 0 ≡ byte
+pub byte_there : (byte : ℕ) (bytes : List ℕ) (place : ℕ) → are_same (Some byte) (slice_get bytes place) ≡ true → get_or bytes place 0 ≡ byte
 unfolding are_same
 byte_there byte [] place some = cc
 byte_there byte (b ∷ bs) zero some = eqb-true b byte some
@@ -74,15 +73,15 @@ stands_there byte (b ∷ bs) (suc n) within same = stands_there byte bs n (omega
 
 -- ---- behind a minus or none
 
-behind_get : (b : Bool) (t : IntegerType) (text digits : List ℕ) (place : ℕ) → IsBehind b t text digits → slice_get text (bool_byte b + place) ≡ slice_get digits place
+pub behind_get : (b : Bool) (t : IntegerType) (text digits : List ℕ) (place : ℕ) → IsBehind b t text digits → slice_get text (bool_byte b + place) ≡ slice_get digits place
 behind_get false t text digits place same = let e : 0 + place ≡ place = omega arith in ap (slice_get text) e ∙ ap (λ (bs : List ℕ). slice_get bs place) same
 behind_get true t text digits place same = let e : 1 + place ≡ suc place = omega arith in ap (slice_get text) e ∙ ap (λ (bs : List ℕ). slice_get bs (suc place)) same.0
 
-behind_drop : (b : Bool) (t : IntegerType) (text digits : List ℕ) (place : ℕ) → IsBehind b t text digits → drop (bool_byte b + place) text ≡ drop place digits
+pub behind_drop : (b : Bool) (t : IntegerType) (text digits : List ℕ) (place : ℕ) → IsBehind b t text digits → drop (bool_byte b + place) text ≡ drop place digits
 behind_drop false t text digits place same = let e : 0 + place ≡ place = omega arith in ap (λ k. drop k text) e ∙ ap (λ (bs : List ℕ). drop place bs) same
 behind_drop true t text digits place same = let e : 1 + place ≡ suc place = omega arith in ap (λ k. drop k text) e ∙ ap (λ (bs : List ℕ). drop (suc place) bs) same.0
 
-behind_length : (b : Bool) (t : IntegerType) (text digits : List ℕ) → IsBehind b t text digits → length text ≡ bool_byte b + length digits
+pub behind_length : (b : Bool) (t : IntegerType) (text digits : List ℕ) → IsBehind b t text digits → length text ≡ bool_byte b + length digits
 behind_length false t text digits same = ap length same ∙ omega arith
 behind_length true t text digits same = ap length same.0 ∙ omega arith
 
@@ -105,7 +104,7 @@ digit_there (b ∷ bs) zero within digits = digits.0
 digit_there (b ∷ bs) (suc n) within digits = digit_there bs n (omega arith) digits.1
 
 -- a digit stands before a place
-ends_with_digit : (b : Bool) (t : IntegerType) (text digits : List ℕ) (place : ℕ) → IsBehind b t text digits → 1 ≤ place → place ≤ length digits → AreDigits 10 (take place digits) → stops_after_digit 10 text (bool_byte b + place) ≡ true
+pub ends_with_digit : (b : Bool) (t : IntegerType) (text digits : List ℕ) (place : ℕ) → IsBehind b t text digits → 1 ≤ place → place ≤ length digits → AreDigits 10 (take place digits) → stops_after_digit 10 text (bool_byte b + place) ≡ true
 unfolding digit_at
 ends_with_digit b t text digits zero behind some within all = absurd (omega arith)
 ends_with_digit b t text digits (suc n) behind some within all =
@@ -127,7 +126,7 @@ all_first bytes number few digits worth =
 
 -- ---- the number
 
-plain_of : (f : Fixed) → IsNone (fixed_fault f) → IsBare f.integer → IsPlain f.integer
+pub plain_of : (f : Fixed) → IsNone (fixed_fault f) → IsBare f.integer → IsPlain f.integer
 plain_of f valid bare =
     let d = decimal_of f valid in
     record {
@@ -203,12 +202,6 @@ filled_read f t b text digits units valid bare law behind minus it =
     refl (inr it.takes) (inr (it.filled, it.fits))
 
 -- ---- digits without a point
-
--- digits that stand for a value are its digits
-standing_joined : (t : IntegerType) (b : Bool) (bytes : List ℕ) (value : ℤ) → (s : StandsFor t 10 b bytes value) → IsJoined bytes (positional_value 10 s.writes.values)
-standing_joined t b bytes value s =
-    let have = have_values bytes s.writes.values (ap (map (λ byte. digit 10 byte)) (sym (take-length bytes)) ∙ s.writes.digits) in
-    record { digits = have.digits; worth = ap (positional_value 10) (sym have.worth) }
 
 -- digits that stand for a value are digits
 digits_stand : (t : IntegerType) (b : Bool) (bytes : List ℕ) (value : ℤ) → StandsFor t 10 b bytes value → AreDigits 10 bytes

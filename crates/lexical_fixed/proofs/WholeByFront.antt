@@ -46,7 +46,7 @@ and_no true = refl
 and_no false = refl
 
 -- no point stands at the text's end
-no_point_at_end : (f : Fixed) (text : List ℕ) (place : ℕ) → place ≡ length text → has_point_at f text place ≡ false
+pub no_point_at_end : (f : Fixed) (text : List ℕ) (place : ℕ) → place ≡ length text → has_point_at f text place ≡ false
 unfolding has_point_at are_same
 no_point_at_end f text place e =
     let none : slice_get text place ≡ None = slice_get_past text place (omega arith) in

@@ -1,13 +1,14 @@
 // The fraction of a number in a text, and digits behind a number. The integer part has been read, and `place` is behind it.
-ghost use Rattle.std.specs.Prelude.{◌≡◌, ◌≢◌, ◌<◌, ◌+◌, ◌^◌, ◌-◌, ◌≤◌, IfOk, IsTrue, Some, length, min, pos, slice_get, take};
+ghost use Rattle.std.specs.Prelude.{◌≡◌, ◌≢◌, ◌<◌, ◌+◌, ◌^◌, ◌-◌, ◌≤◌, IfOk, IsTrue, Some, length, min, nat_lt, pos, slice_get};
 ghost use Rattle.std.specs.Option.{option_map};
 ghost use Rattle.lexical_util.specs.Number.{HasSign, mul_add, number_if_fits};
 ghost use Rattle.lexical_digits.specs.Words.{AreDigits};
 ghost use Rattle.lexical_parse_integer.specs.Answer.{view_of};
 ghost use Rattle.lexical_parse_integer.specs.Grammar.{range_error};
 ghost use Rattle.lexical_parse_integer.specs.Runs.{are_same};
-ghost use Rattle.lexical_fixed.specs.Fraction.{digits_from, fraction, fraction_length, has_point_at, read_digits, read_zeros};
+ghost use Rattle.lexical_fixed.specs.Fraction.{digits_from, fraction, fraction_length, has_point_at, is_cut, read_digits, read_zeros};
 
+use crate::append::{append_digits, append_part, digits_at_once};
 use crate::format::FixedFormat;
 use lexical_util::error::Error;
 use lexical_util::num::Integer;
@@ -20,17 +21,6 @@ fn count_digits(text: &[u8]) -> usize
     ensures within { result ≤ length text.now }
 {
     text.iter().take_while(|byte| byte.is_ascii_digit()).count()
-}
-
-// How many digits stand from a place on.
-#[tactic(auto, unfolding(crate::specs::Fraction::digits_from))]
-pub(crate) fn digits_from(text: &[u8], place: usize) -> usize
-    ensures { result ≡ digits_from text.now place }
-{
-    match text.get(place..) {
-        Some(rest) => count_digits(rest),
-        None => 0,
-    }
 }
 
 // Whether a byte stands at a place.
@@ -52,27 +42,37 @@ pub(crate) fn has_point_at(text: &[u8], format: &FixedFormat, place: usize) -> b
     format.places() > 0 && stands_at(text, format.point(), place)
 }
 
-// The digits of the fraction.
-pub(crate) fn fraction<'a>(text: &'a [u8], format: &FixedFormat, place: usize) -> &'a [u8]
-    ensures answer { result.now ≡ fraction format.now text.now place }
-    ensures count { length result.now ≡ fraction_length format.now text.now place }
-    ensures digits { AreDigits 10 result.now }
-    ensures within { length result.now ≢ 0 → place + 1 + length result.now ≤ length text.now }
+// How many digits stand behind the point, where it stands at a place: none without it.
+#[inline(always)]
+pub(crate) fn digits_behind(text: &[u8], format: &FixedFormat, place: usize) -> usize
+    ensures cut { nat_lt format.now.places result ≡ is_cut format.now text.now place }
+    ensures count { min format.now.places result ≡ fraction_length format.now text.now place }
+    ensures within { result ≢ 0 → place + 1 + result ≤ length text.now }
 {
-    if !has_point_at(text, format, place) {
-        return &text[..0];
+    if !stands_at(text, format.point(), place) {
+        return 0;
     }
-    first_digits(&text[place + 1..], format.places())
+    count_digits(&text[place + 1..])
 }
 
-// The digits that a text begins with, so many at most.
-fn first_digits(text: &[u8], most: usize) -> &[u8]
-    ensures answer { result.now ≡ take (min most (digits_from text.now 0)) text.now }
-    ensures count { length result.now ≡ min most (digits_from text.now 0) }
+// The digits of the fraction, which has so many.
+#[inline(always)]
+pub(crate) fn fraction<'a>(
+    text: &'a [u8],
+    format: &FixedFormat,
+    place: usize,
+    count: usize,
+) -> &'a [u8]
+    requires count { count ≡ fraction_length format.now text.now place }
+    requires room { count ≢ 0 → place + 1 + count ≤ length text.now }
+    ensures answer { result.now ≡ fraction format.now text.now place }
+    ensures count { length result.now ≡ count }
     ensures digits { AreDigits 10 result.now }
 {
-    let count = most.min(count_digits(text));
-    &text[..count]
+    if count == 0 {
+        return &text[..0];
+    }
+    &text[place + 1..place + 1 + count]
 }
 
 // The fault of a number that leaves its type at a place.
@@ -101,8 +101,10 @@ fn append_digit<T: Integer>(number: T, digit: u8, is_negative: bool) -> Option<T
     number.checked_mul_add(ten, add, is_negative)
 }
 
-// The number with digits behind it that stand from a place on, or the fault of the first one that takes it out of the type.
-pub(crate) fn read_digits<T: Integer>(
+// The number with digits behind it that stand from a place on, or the fault of the first one that takes it out of the type:
+// digit by digit.
+#[inline(never)]
+fn read_each_digit<T: Integer>(
     number: T,
     digits: &[u8],
     place: usize,
@@ -125,7 +127,31 @@ pub(crate) fn read_digits<T: Integer>(
     Ok(value)
 }
 
+// The same at once where all digits fit.
+#[inline(always)]
+pub(crate) fn read_digits<T: Integer>(
+    number: T,
+    digits: &[u8],
+    place: usize,
+    is_negative: bool,
+) -> Result<T>
+    requires digits { AreDigits 10 digits.now }
+    requires sign { HasSign is_negative (T.number number) }
+    requires room { place + length digits.now < 2 ^ 64 }
+    ensures answer { view_of T.number result
+        ≡ read_digits T.TYPE is_negative (T.number number) digits.now place }
+    ensures sign { IfOk result (λ value. HasSign is_negative (T.number value)) }
+{
+    if T::BITS >= 32 {
+        if let Some(value) = append_digits::<T>(number, digits, is_negative) {
+            return Ok(value);
+        }
+    }
+    read_each_digit::<T>(number, digits, place, is_negative)
+}
+
 // The number times a power of ten, or a fault where that is outside the type.
+#[inline(always)]
 pub(crate) fn read_zeros<T: Integer>(
     number: T,
     zeros: usize,
@@ -137,11 +163,14 @@ pub(crate) fn read_zeros<T: Integer>(
         ≡ read_zeros T.TYPE is_negative (T.number number) zeros place }
 {
     let mut value = number;
-    for _ in 0..zeros {
-        match append_digit::<T>(value, b'0', is_negative) {
+    let mut done = 0;
+    while done < zeros {
+        let count = digits_at_once::<T>().min(zeros - done);
+        match append_part::<T>(value, T::ZERO, count, is_negative) {
             Some(next) => value = next,
             None => return Err(range_fault(is_negative, place)),
         }
+        done += count;
     }
     Ok(value)
 }

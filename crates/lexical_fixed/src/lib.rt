@@ -2,12 +2,14 @@
 #![tactic(auto)]
 
 mod api;
+mod append;
 pub mod error;
 pub mod format;
 mod fraction;
 mod joined;
 pub mod laws;
 mod parse;
+mod parted;
 pub mod quick;
 mod short;
 

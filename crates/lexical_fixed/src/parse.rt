@@ -1,17 +1,18 @@
 // The parsers of fixed-point numbers, for valid descriptions.
-ghost use Rattle.std.specs.Prelude.{◌≡◌, ◌≤◌, ◌+◌, Bool, IfOk, IsNone, length};
+ghost use Rattle.std.specs.Prelude.{◌≡◌, ◌≢◌, ◌≤◌, ◌+◌, ◌&&◌, IfOk, IsNone, length, nat_lt, not};
 ghost use Rattle.lexical_util.specs.Number.{HasSign};
 ghost use Rattle.lexical_util.specs.Validity.{fault};
 ghost use Rattle.lexical_parse_integer.specs.Answer.{view_of, with_place};
 ghost use Rattle.lexical_parse_integer.specs.Fronts.{number_in_front};
 ghost use Rattle.lexical_parse_integer.specs.Grammar.{digits_required};
-ghost use Rattle.lexical_fixed.specs.Fraction.{front_end, has_bare_point, is_cut, lacks_places, whole_end};
-ghost use Rattle.lexical_fixed.specs.Grammar.{complete_fixed, front_behind, integer_part, is_negative, partial_fixed, units_behind, whole_behind, whole_fault, zeros_left};
+ghost use Rattle.lexical_fixed.specs.Fraction.{fraction_length, front_end, whole_end};
+ghost use Rattle.lexical_fixed.specs.Grammar.{complete_fixed, front_behind, integer_part, is_negative, partial_fixed, units_behind, whole_behind, whole_fault};
 ghost use Rattle.lexical_fixed.specs.Validity.{fixed_fault};
 
 use crate::format::FixedFormat;
-use crate::fraction::{digits_from, fraction, has_point_at, read_digits, read_zeros, stands_at};
-use crate::quick::{front_at_once, value_if_short, whole_at_once};
+use crate::fraction::{digits_behind, fraction, has_point_at, read_digits, read_zeros};
+use crate::parted::whole_at_once;
+use crate::quick::{front_at_once, plain_part, value_if_short};
 use lexical_parse_integer::parse::ParseInteger;
 use lexical_parse_integer::{number_in_front, options};
 use lexical_util::error::Error;
@@ -34,10 +35,10 @@ fn number_with_digit<T: Integer>(text: &[u8], format: &NumberFormat) -> Result<(
     number_in_front::<T>(text, format)
 }
 
-// The integer part in front of a text, and the place behind it.
+// The integer part in front of a text, and the place behind it, for a text that `plain_part` has left.
 #[tactic(auto, unfolding(crate::specs::Grammar::integer_part))]
 #[inline(never)]
-fn integer_part<T: Integer>(text: &[u8], format: &NumberFormat) -> Result<(T, usize)>
+fn part_by_format<T: Integer>(text: &[u8], format: &NumberFormat) -> Result<(T, usize)>
     requires valid { IsNone (fault format.now) }
     ensures answer { view_of (with_place T.number) result
         ≡ integer_part format.now T.TYPE text.now }
@@ -48,6 +49,21 @@ fn integer_part<T: Integer>(text: &[u8], format: &NumberFormat) -> Result<(T, us
         number_with_digit::<T>(text, format)
     } else {
         T::parse_partial(text, format, &options::STANDARD)
+    }
+}
+
+// The integer part in front of a text, and the place behind it: most are digits alone.
+#[inline(always)]
+fn integer_part<T: Integer>(text: &[u8], format: &FixedFormat) -> Result<(T, usize)>
+    requires valid { IsNone (fixed_fault format.now) }
+    ensures answer { view_of (with_place T.number) result
+        ≡ integer_part format.now.integer T.TYPE text.now }
+    ensures within { IfOk result (λ found. found.1 ≤ length text.now) }
+    ensures sign { IfOk result (λ found. HasSign (is_negative T.TYPE text.now) (T.number found.0)) }
+{
+    match plain_part::<T>(text, format) {
+        Some(found) => Ok(found),
+        None => part_by_format::<T>(text, format.integer()),
     }
 }
 
@@ -70,34 +86,29 @@ fn whole_fault(size: usize, error: Error) -> Error
     }
 }
 
-// Whether more digits stand behind the point than the description has places.
-#[tactic(auto, unfolding(crate::specs::Fraction::is_cut))]
-fn is_cut(text: &[u8], format: &FixedFormat, place: usize) -> bool
-    ensures { result ≡ is_cut format.now text.now place }
-{
-    stands_at(text, format.point(), place) && digits_from(text, place + 1) > format.places()
-}
-
-// The number in units behind an integer part that ends at a place. Reading stops at `stop`, where a byte can't stand or a
-// digit is missing.
-#[inline(never)]
+// The number in units behind an integer part that ends at a place, where the fraction has so many digits. Reading stops at
+// `stop`, where a byte can't stand or a digit is missing.
+#[inline(always)]
 fn units_behind<T: Integer>(
     text: &[u8],
     format: &FixedFormat,
     whole: T,
     place: usize,
+    count: usize,
     stop: usize,
     cannot_stand: bool,
     is_missing: bool,
 ) -> Result<T>
     requires within { place ≤ length text.now }
     requires sign { HasSign (is_negative T.TYPE text.now) (T.number whole) }
+    requires count { count ≡ fraction_length format.now text.now place }
+    requires room { count ≢ 0 → place + 1 + count ≤ length text.now }
     ensures { view_of T.number result
         ≡ units_behind format.now T.TYPE text.now (T.number whole) place
         stop cannot_stand is_missing }
 {
     let is_negative = is_negative::<T>(text);
-    let digits = fraction(text, format, place);
+    let digits = fraction(text, format, place, count);
     let written = match read_digits::<T>(whole, digits, place + 1, is_negative) {
         Ok(written) => written,
         Err(error) => return Err(error),
@@ -108,69 +119,70 @@ fn units_behind<T: Integer>(
     if is_missing {
         return Err(Error::Empty(stop));
     }
-    let zeros = format.places() - digits.len();
+    let zeros = format.places() - count;
     read_zeros::<T>(written, zeros, stop, is_negative)
 }
 
-// Where a number ends that has to be the whole text.
+// Where a number ends that has to be the whole text, where the fraction has so many digits.
+#[inline(always)]
 #[tactic(auto, unfolding(crate::specs::Fraction::whole_end))]
-fn whole_end(text: &[u8], format: &FixedFormat, place: usize) -> usize
-    requires { place ≤ length text.now }
+fn whole_end(text: &[u8], format: &FixedFormat, place: usize, count: usize) -> usize
+    requires within { place ≤ length text.now }
+    requires count { count ≡ fraction_length format.now text.now place }
+    requires room { count ≢ 0 → place + 1 + count ≤ length text.now }
     ensures { result ≡ whole_end format.now text.now place }
 {
     if has_point_at(text, format, place) {
-        place + 1 + fraction(text, format, place).len()
+        place + 1 + count
     } else {
         place
     }
 }
 
-// Where a number in front ends.
+// Where a number in front ends, where the fraction has so many digits.
+#[inline(always)]
 #[tactic(auto, unfolding(crate::specs::Fraction::front_end))]
-fn front_end(text: &[u8], format: &FixedFormat, place: usize) -> usize
-    requires { place ≤ length text.now }
+fn front_end(text: &[u8], format: &FixedFormat, place: usize, count: usize) -> usize
+    requires within { place ≤ length text.now }
+    requires count { count ≡ fraction_length format.now text.now place }
+    requires room { count ≢ 0 → place + 1 + count ≤ length text.now }
     ensures { result ≡ front_end format.now text.now place }
 {
-    if format.takes_fewer() && fraction(text, format, place).is_empty() {
+    if format.takes_fewer() && count == 0 {
         place
     } else {
-        whole_end(text, format, place)
+        whole_end(text, format, place, count)
     }
 }
 
-// Whether the fraction has fewer digits than asked for.
-#[tactic(auto, unfolding(crate::specs::Fraction::lacks_places))]
-fn lacks_places(text: &[u8], format: &FixedFormat, place: usize) -> bool
-    ensures { result ≡ lacks_places format.now text.now place }
+// Whether a fraction of so many digits has fewer than asked for.
+#[inline(always)]
+fn lacks_places(format: &FixedFormat, count: usize) -> bool
+    ensures { result ≡ (not format.now.takes_fewer && nat_lt count format.now.places) }
 {
-    !format.takes_fewer() && fraction(text, format, place).len() < format.places()
-}
-
-// Whether the point has no digit behind it.
-#[tactic(auto, unfolding(crate::specs::Fraction::has_bare_point))]
-fn has_bare_point(text: &[u8], format: &FixedFormat, place: usize) -> bool
-    ensures { result ≡ has_bare_point format.now text.now place }
-{
-    has_point_at(text, format, place) && fraction(text, format, place).is_empty()
+    !format.takes_fewer() && count < format.places()
 }
 
 // What the whole text stands for, behind its integer part.
-#[tactic(auto, unfolding(crate::specs::Grammar::whole_behind))]
+#[inline(always)]
+#[tactic(auto, unfolding(crate::specs::Grammar::whole_behind, crate::specs::Fraction::has_bare_point, crate::specs::Fraction::lacks_places))]
 fn whole_behind<T: Integer>(text: &[u8], format: &FixedFormat, whole: T, place: usize) -> Result<T>
     requires within { place ≤ length text.now }
     requires sign { HasSign (is_negative T.TYPE text.now) (T.number whole) }
     ensures { view_of T.number result
         ≡ whole_behind format.now T.TYPE text.now (T.number whole) place }
 {
-    let stop = whole_end(text, format, place);
+    let count = format.places().min(digits_behind(text, format, place));
+    let stop = whole_end(text, format, place, count);
     let is_left = stop < text.len();
-    let is_bare = has_bare_point(text, format, place);
-    let is_missing = is_bare || lacks_places(text, format, place);
-    units_behind::<T>(text, format, whole, place, stop, is_left, is_missing)
+    let is_bare = has_point_at(text, format, place) && count == 0;
+    let is_missing = is_bare || lacks_places(format, count);
+    units_behind::<T>(text, format, whole, place, count, stop, is_left, is_missing)
 }
 
 // What the front of the text stands for, behind its integer part, and the place at which reading stops.
-#[tactic(auto, unfolding(crate::specs::Grammar::front_behind))]
+#[inline(always)]
+#[tactic(auto, unfolding(crate::specs::Grammar::front_behind, crate::specs::Fraction::lacks_places))]
 fn front_behind<T: Integer>(
     text: &[u8],
     format: &FixedFormat,
@@ -182,10 +194,12 @@ fn front_behind<T: Integer>(
     ensures { view_of (with_place T.number) result
         ≡ front_behind format.now T.TYPE text.now (T.number whole) place }
 {
-    let stop = front_end(text, format, place);
-    let is_cut = is_cut(text, format, place);
-    let is_missing = lacks_places(text, format, place);
-    match units_behind::<T>(text, format, whole, place, stop, is_cut, is_missing) {
+    let digits = digits_behind(text, format, place);
+    let is_cut = digits > format.places();
+    let count = format.places().min(digits);
+    let stop = front_end(text, format, place, count);
+    let is_missing = lacks_places(format, count);
+    match units_behind::<T>(text, format, whole, place, count, stop, is_cut, is_missing) {
         Ok(value) => Ok((value, stop)),
         Err(error) => Err(error),
     }
@@ -198,7 +212,7 @@ pub(crate) fn read_whole<T: Integer>(text: &[u8], format: &FixedFormat) -> Resul
     requires valid { IsNone (fixed_fault format.now) }
     ensures { view_of T.number result ≡ complete_fixed format.now T.TYPE text.now }
 {
-    match integer_part::<T>(text, format.integer()) {
+    match integer_part::<T>(text, format) {
         Ok((whole, place)) => whole_behind::<T>(text, format, whole, place),
         Err(error) => Err(whole_fault(text.len(), error)),
     }
@@ -211,7 +225,7 @@ pub fn partial_if_left<T: Integer>(text: &[u8], format: &FixedFormat) -> Result<
     requires valid { IsNone (fixed_fault format.now) }
     ensures { view_of (with_place T.number) result ≡ partial_fixed format.now T.TYPE text.now }
 {
-    match integer_part::<T>(text, format.integer()) {
+    match integer_part::<T>(text, format) {
         Ok((whole, place)) => front_behind::<T>(text, format, whole, place),
         Err(error) => Err(error),
     }
@@ -224,7 +238,7 @@ pub fn complete_if_not_short<T: Integer>(text: &[u8], format: &FixedFormat) -> R
     ensures { view_of T.number result ≡ complete_fixed format.now T.TYPE text.now }
 {
     match whole_at_once::<T>(text, format) {
-        Some(value) => Ok(value),
+        Some(units) => Ok(units),
         None => read_whole::<T>(text, format),
     }
 }

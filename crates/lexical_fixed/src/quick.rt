@@ -1,69 +1,27 @@
 //! The parsers in two halves, under a valid description: for this crate, and for calls from C.
 //!
 //! The first half has at once what most texts are, and its `None` says nothing of a text. The second half, for what the first
-//! one left, has the answer. Up to fifteen digits around a point are read by one word or two. Other texts are read in one walk,
-//! where the integer part is digits alone and the fraction is short.
+//! one left, has the answer. Up to fifteen digits around a point are read by one word or two, and a longer text from its point.
+//! Fronts are read in one walk, where the integer part is digits alone and the fraction is short.
 ghost use Rattle.std.specs.Prelude.{◌≡◌, ◌==◌, ◌≤◌, ◌<◌, ◌+◌, ◌^◌, if◌then◌else◌, IfSome, IsNone, Ok, length, pos, true};
 ghost use Rattle.lexical_util.specs.Number.{HasSign, is_number, mul_add};
 ghost use Rattle.lexical_parse_integer.specs.Answer.{with_place};
 ghost use Rattle.lexical_fixed.specs.Fraction.{front_end};
-ghost use Rattle.lexical_fixed.specs.Grammar.{complete_fixed, front_behind, integer_part, is_negative, partial_fixed};
+ghost use Rattle.lexical_fixed.specs.Grammar.{front_behind, integer_part, is_negative, partial_fixed};
 ghost use Rattle.lexical_fixed.specs.Quick.{IsFraction};
 ghost use Rattle.lexical_fixed.specs.Validity.{fixed_fault};
 
+use crate::append::append_number;
 use crate::format::FixedFormat;
 use crate::fraction::stands_at;
 use crate::parse::is_negative;
 pub use crate::parse::{complete_if_not_short, partial_if_left};
 pub use crate::short::{value_at_once, value_if_short};
 use lexical_digits::fronts::number_in_front;
-use lexical_digits::values::value_to_16;
 use lexical_parse_integer::laws::grammar::front_digits;
 use lexical_parse_integer::quick::front_if_plain;
 use lexical_parse_integer::stops_after_digit;
 use lexical_util::num::Integer;
-
-static POWERS: [u32; 10] = [
-    1,
-    10,
-    100,
-    1_000,
-    10_000,
-    100_000,
-    1_000_000,
-    10_000_000,
-    100_000_000,
-    1_000_000_000,
-];
-
-// A power of ten.
-#[inline(always)]
-fn power_of_ten(exponent: usize) -> u32
-    requires { exponent < 10 }
-    ensures { result ≡ 10 ^ exponent }
-{
-    POWERS[exponent]
-}
-
-// The number with so many digits behind it, which write another, where the type has that.
-#[inline(always)]
-pub(crate) fn append_number<T: Integer>(
-    value: T,
-    number: u32,
-    count: usize,
-    is_negative: bool,
-) -> Option<T>
-    requires bits { 32 ≤ T.TYPE.bits }
-    requires small { number < 100000000 }
-    requires few { count < 10 }
-    requires sign { HasSign is_negative (T.number value) }
-    ensures value { IfSome result (λ next.
-        T.number next ≡ mul_add is_negative (T.number value) (pos (10 ^ count)) (pos number)) }
-    ensures fits { IfSome result (λ next. is_number T.TYPE (T.number next) ≡ true) }
-{
-    let scale = T::from_u32(power_of_ten(count));
-    value.checked_mul_add(scale, T::from_u32(number), is_negative)
-}
 
 // The number of the fraction, and how many digits it has, where they are few.
 #[inline(always)]
@@ -128,34 +86,9 @@ fn short_units<T: Integer>(
     Some(units)
 }
 
-// The number of a fraction that goes to the text's end, and how many digits it has, where they are few.
-#[inline(always)]
-fn last_fraction(text: &[u8], format: &FixedFormat, place: usize) -> Option<(u32, usize)>
-    requires { place ≤ length text.now }
-    ensures fraction { IfSome result
-        (λ found. IsFraction format.now text.now place found.0 found.1) }
-    ensures ends { IfSome result (λ found. front_end format.now text.now place ≡ length text.now) }
-{
-    if place == text.len() {
-        return Some((0, 0));
-    }
-    if !stands_at(text, format.point(), place) {
-        return None;
-    }
-    let rest = &text[place + 1..];
-    let count = rest.len();
-    if count == 0 || count > 4 || count > format.places() {
-        return None;
-    }
-    match value_to_16::<u32>(rest, false) {
-        Some(number) => Some((number, count)),
-        None => None,
-    }
-}
-
 // An integer part of digits alone, behind a minus or none, and the place behind it.
 #[inline(always)]
-fn plain_part<T: Integer>(text: &[u8], format: &FixedFormat) -> Option<(T, usize)>
+pub(crate) fn plain_part<T: Integer>(text: &[u8], format: &FixedFormat) -> Option<(T, usize)>
     requires valid { IsNone (fixed_fault format.now) }
     ensures within { IfSome result (λ found. found.1 ≤ length text.now) }
     ensures sign { IfSome result
@@ -198,23 +131,4 @@ pub fn front_at_once<T: Integer>(text: &[u8], format: &FixedFormat) -> Option<(T
         Some(units) => Some((units, end_behind(place, count))),
         None => None,
     }
-}
-
-// The number that the whole text stands for.
-#[inline(always)]
-pub(crate) fn whole_at_once<T: Integer>(text: &[u8], format: &FixedFormat) -> Option<T>
-    requires valid { IsNone (fixed_fault format.now) }
-    ensures { IfSome result
-        (λ units. complete_fixed format.now T.TYPE text.now ≡ Ok (T.number units)) }
-{
-    if T::BITS < 32 {
-        return None;
-    }
-    let Some((whole, place)) = plain_part::<T>(text, format) else {
-        return None;
-    };
-    let Some((number, count)) = last_fraction(text, format, place) else {
-        return None;
-    };
-    short_units::<T>(text, format, whole, place, number, count)
 }

@@ -6,9 +6,9 @@ ghost use Rattle.lexical_fixed.specs.Grammar.{complete_fixed, is_negative};
 ghost use Rattle.lexical_fixed.specs.Quick.{IsBare, IsFilled, IsFilledWhole, IsLastPoint, IsValueWithout};
 ghost use Rattle.lexical_fixed.specs.Validity.{fixed_fault};
 
+use crate::append::append_number;
 use crate::format::FixedFormat;
 use crate::joined::{number_without, numbers_without};
-use crate::quick::append_number;
 use lexical_digits::values::{value_of_parts, value_to_8, value_to_16};
 use lexical_parse_integer::laws::grammar::front_digits;
 use lexical_util::format::NumberFormat;
@@ -16,7 +16,7 @@ use lexical_util::num::Integer;
 
 // Whether a format has no separator, asks for no sign and lets zeros stand in front.
 #[inline(always)]
-fn is_bare(format: &NumberFormat) -> bool
+pub(crate) fn is_bare(format: &NumberFormat) -> bool
     ensures { IsTrue result → IsBare format.now }
 {
     !(format.digit_separator().is_some()
@@ -45,7 +45,7 @@ fn point_before(digits: &[u8], format: &FixedFormat, least: usize, count: usize)
 
 // What stands behind a minus that is a sign, and whether there is one.
 #[inline(always)]
-fn behind_minus<T: Integer>(text: &[u8]) -> (bool, &[u8])
+pub(crate) fn behind_minus<T: Integer>(text: &[u8]) -> (bool, &[u8])
     requires { 1 ≤ length text.now }
     ensures behind { IsBehind result.0 T.TYPE text.now result.1.now }
     ensures minus { result.0 ≡ is_negative T.TYPE text.now }
@@ -141,7 +141,11 @@ fn value_by_point<T: Integer>(digits: &[u8], place: usize, is_negative: bool) ->
 
 // The value of digits with fewer behind the point than there are places, where the description takes that.
 #[inline(always)]
-fn value_of_fewer<T: Integer>(digits: &[u8], format: &FixedFormat, is_negative: bool) -> Option<T>
+pub(crate) fn value_of_fewer<T: Integer>(
+    digits: &[u8],
+    format: &FixedFormat,
+    is_negative: bool,
+) -> Option<T>
     requires bits { 32 ≤ T.TYPE.bits }
     requires minus { IsTrue is_negative → IsTrue T.TYPE.is_signed }
     requires takes { format.now.takes_fewer ≡ true }
@@ -167,7 +171,11 @@ fn value_of_fewer<T: Integer>(digits: &[u8], format: &FixedFormat, is_negative: 
 
 // The value of up to sixteen digits without a point, where the description takes that.
 #[inline(always)]
-fn value_of_whole<T: Integer>(digits: &[u8], format: &FixedFormat, is_negative: bool) -> Option<T>
+pub(crate) fn value_of_whole<T: Integer>(
+    digits: &[u8],
+    format: &FixedFormat,
+    is_negative: bool,
+) -> Option<T>
     requires bits { 32 ≤ T.TYPE.bits }
     requires minus { IsTrue is_negative → IsTrue T.TYPE.is_signed }
     requires takes { format.now.takes_fewer ≡ true }

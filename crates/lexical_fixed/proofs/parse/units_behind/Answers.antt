@@ -1,4 +1,4 @@
-use Rattle.std.proofs.Common.{◌∙◌, ◌-◌, ap, arith, length}
+use Rattle.std.proofs.Common.{◌∙◌, ◌-◌, ap, arith}
 use Rattle.lexical_fixed.proofs.Fractions.{places_most}
 use Rattle.lexical_fixed.proofs.Units.{by_byte, by_digit, by_missing, by_zeros}
 use Rattle.lexical_fixed.proofs.parse.units_behind.Goals as goal
@@ -21,11 +21,11 @@ returns-then-is_missing g c =
 pub overflow_sub-zeros : goal.overflow_sub-zeros
 overflow_sub-zeros g c =
     let most = places_most c.args.format.now c.args.text.now c.args.place in
-    omega (arith, c.fraction-digits.ensures.count, c.places.ensures)
+    omega (arith, c.requires.count, c.places.ensures)
 
 pub returns : goal.returns
 returns g c =
     rw (c.if-cannot_stand.false, c.if-is_missing.false) (by_zeros c.args.format.now g.T.Integer.TYPE c.args.text.now (g.T.Integer.number c.args.whole) c.args.place c.args.stop _ _ _
     (rw (c.fraction-digits.ensures.answer, c.is_negative-is_negative.ensures) at c.in-Ok.ensures.answer)
-    (ap (λ n. n - length c.fraction-digits.result.now) c.places.ensures ∙ ap (λ n. c.args.format.now.places - n) c.fraction-digits.ensures.count)
+    (ap (λ n. n - c.args.count) c.places.ensures ∙ ap (λ n. c.args.format.now.places - n) c.requires.count)
     (rw c.is_negative-is_negative.ensures at c.read_zeros.ensures))

@@ -1,7 +1,7 @@
 use Rattle.std.proofs.Common.{◌≤◌, ◌^◌, arith}
 use Rattle.std.proofs.Math.Nat.{one-le-pow}
 use Rattle.std.proofs.lemmas.Int.{ints}
-use Rattle.lexical_fixed.proofs.quick.append_number.Goals as goal
+use Rattle.lexical_fixed.proofs.append.append_number.Goals as goal
 
 pub checked_mul_add-requires-clause-scale : goal.checked_mul_add-requires-clause-scale
 checked_mul_add-requires-clause-scale g c =

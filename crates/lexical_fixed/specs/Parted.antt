@@ -1,0 +1,28 @@
+-- What is found out about a whole text of digits, before it has a number.
+use Rattle.std.specs.Prelude.{◌≡◌, ◌+◌, ◌-◌, ◌≤◌, ℕ, ℤ, ◌==◌, Bool, true, if◌then◌else◌, List, drop, length, slice_get, take, Some, ◌⊎◌}
+use Rattle.lexical_digits.specs.WrittenNumbers.{StandsFor}
+use Rattle.lexical_util.specs.Number.{IntegerType}
+use Rattle.lexical_parse_integer.specs.Runs.{are_same}
+use Rattle.lexical_fixed.specs.Append.{IsAppended}
+use Rattle.lexical_fixed.specs.Fixed.{Fixed}
+
+-- So many bytes stand behind the point, and some before it, or none and there is no point: as many as there are places, or
+-- fewer where the description takes that.
+pub record IsParted (fixed : Fixed) (bytes : List ℕ) (count : ℕ) : Type 0 where
+  pub some : 1 ≤ length bytes
+  pub room : count ≤ fixed.places
+  pub taken : (fixed.places ≤ count) ⊎ (fixed.takes_fewer ≡ true)
+  pub before : 1 ≤ count → count + 2 ≤ length bytes
+  pub point : 1 ≤ count
+      → are_same (Some fixed.point) (slice_get bytes (length bytes - 1 - count)) ≡ true
+
+-- where the bytes before the point end, where so many stand behind it
+abbrev pub point_place : List ℕ → ℕ → ℕ
+point_place bytes count = if count == 0 then length bytes else length bytes - 1 - count
+
+-- A value is that of the digits before the point, and of so many behind it.
+pub record IsSummed (type : IntegerType) (is_negative : Bool) (bytes : List ℕ) (count : ℕ)
+    (value : ℤ) : Type 0 where
+  pub whole : ℤ
+  pub stands : StandsFor type 10 is_negative (take (point_place bytes count) bytes) whole
+  pub appended : IsAppended type is_negative whole (drop (length bytes - count) bytes) value

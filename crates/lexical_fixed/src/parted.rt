@@ -1,0 +1,92 @@
+// Whole texts of any length at once: digits around a point, with all places behind it or fewer where the description takes
+// that, or digits alone. `None` says nothing of the text.
+ghost use Rattle.std.specs.Prelude.{◌≡◌, ◌+◌, ◌≤◌, IfSome, IsNone, IsTrue, Ok, length};
+ghost use Rattle.lexical_fixed.specs.Grammar.{complete_fixed};
+ghost use Rattle.lexical_fixed.specs.Parted.{IsParted, IsSummed};
+ghost use Rattle.lexical_fixed.specs.Validity.{fixed_fault};
+
+use crate::append::append_digits;
+use crate::format::FixedFormat;
+use crate::fraction::read_zeros;
+use crate::short::{behind_minus, is_bare, value_of_fewer, value_of_whole};
+use lexical_digits::fronts::value_of_digits;
+use lexical_parse_integer::laws::grammar::front_digits;
+use lexical_util::num::Integer;
+
+// How many digits stand behind the point, none where there is no point: as many as there are places, or fewer where the
+// description takes that.
+#[inline(always)]
+fn places_written(digits: &[u8], format: &FixedFormat) -> Option<usize>
+    ensures { IfSome result (IsParted format.now digits.now) }
+{
+    let size = digits.len();
+    // Most faults are bytes behind a number: then no digit is read in vain.
+    if size == 0 || !digits[size - 1].is_ascii_digit() {
+        return None;
+    }
+    let places = format.places();
+    let most = places.min(size.saturating_sub(2));
+    let mut count = if format.takes_fewer() { 1 } else { places };
+    while 0 < count && count <= most {
+        if digits[size - 1 - count] == format.point() {
+            return Some(count);
+        }
+        count += 1;
+    }
+    if places > 0 && !format.takes_fewer() {
+        return None;
+    }
+    Some(0)
+}
+
+// The value of the digits of an integer part and a fraction of so many, as they are written.
+#[inline(always)]
+fn value_as_written<T: Integer>(digits: &[u8], count: usize, is_negative: bool) -> Option<T>
+    requires bits { 32 ≤ T.TYPE.bits }
+    requires minus { IsTrue is_negative → IsTrue T.TYPE.is_signed }
+    requires some { 1 ≤ length digits.now }
+    requires before { 1 ≤ count → count + 2 ≤ length digits.now }
+    ensures { IfSome result (λ value. IsSummed T.TYPE is_negative digits.now count (T.number value)) }
+{
+    let size = digits.len();
+    let place = if count == 0 { size } else { size - 1 - count };
+    let Some(whole) = value_of_digits::<T>(&digits[..place], is_negative) else {
+        return None;
+    };
+    append_digits::<T>(whole, &digits[size - count..], is_negative)
+}
+
+/// The number that the whole text stands for. Out of line, so that its callers stay small: it has a reader for each range of
+/// lengths.
+#[inline(never)]
+pub(crate) fn whole_at_once<T: Integer>(text: &[u8], format: &FixedFormat) -> Option<T>
+    requires valid { IsNone (fixed_fault format.now) }
+    ensures { IfSome result
+        (λ units. complete_fixed format.now T.TYPE text.now ≡ Ok (T.number units)) }
+{
+    // The law by which the front has a digit.
+    front_digits();
+    if T::BITS < 32 || !is_bare(format.integer()) || text.is_empty() {
+        return None;
+    }
+    let (is_negative, digits) = behind_minus::<T>(text);
+    if format.takes_fewer() && digits.len() <= 16 {
+        if let Some(units) = value_of_fewer::<T>(digits, format, is_negative) {
+            return Some(units);
+        }
+        if let Some(units) = value_of_whole::<T>(digits, format, is_negative) {
+            return Some(units);
+        }
+    }
+    let Some(count) = places_written(digits, format) else {
+        return None;
+    };
+    let Some(written) = value_as_written::<T>(digits, count, is_negative) else {
+        return None;
+    };
+    let zeros = format.places() - count;
+    match read_zeros::<T>(written, zeros, text.len(), is_negative) {
+        Ok(units) => Some(units),
+        Err(_) => None,
+    }
+}
