@@ -17,7 +17,7 @@ COLUMNS = {"a": "u8"}
 # A process that holds a table whose rows aren't all read, and then goes on with what it is given.
 HOLDING = f"""
 import io, os, signal, sys, time
-from jadvolni import iter_table
+from jadvolni import iter_table, parse_table
 signal.signal(signal.SIGINT, signal.default_int_handler)  # (ignored in a shell's background)
 tables = iter_table(io.BytesIO({TEXT!r}), {COLUMNS}, threads=4, size=64)
 next(tables)
@@ -33,6 +33,12 @@ if os.fork():
 again = iter_table(io.BytesIO(b"1\\n" * 99), {"a": "u8"}, threads=2, size=9)
 print(sum(len(table["a"]) for table in again), file=sys.stderr)
 sys.exit(5)
+"""
+AT_EXIT = """
+import atexit
+def read():
+    print(len(parse_table(b"1\\n" * 99, {"a": "u8"}, threads=3)["a"]), file=sys.stderr)
+atexit.register(read)
 """
 
 
@@ -68,6 +74,10 @@ class Processes(unittest.TestCase):
 
     def test_a_fork_ends(self):
         self.assertEqual(self.ended(FORKING), (5, ["99"]))
+
+    def test_tables_are_read_at_the_end(self):
+        """Where no thread can be started any more, the last one reads them."""
+        self.assertEqual(self.ended(AT_EXIT), (0, ["99"]))
 
 
 class Pools(unittest.TestCase):
