@@ -110,6 +110,13 @@ class Pools(unittest.TestCase):
                 self.assertRaises(ZeroDivisionError, pool.submit(divmod, 1, 0).result)
         self.assertEqual((pool.most, pool.threads), (0, []))
 
+    def test_garbage_that_one_of_the_threads_collects(self):
+        """A table that nobody holds, and that isn't read to its end, is left by any thread."""
+        with Pool(2) as pool:
+            self.assertIsNone(pool.submit(pool.__exit__).result(60))
+            self.assertEqual(pool.map(abs, [-1, 2]), [1, 2])
+        self.assertFalse([it for it in pool.threads if it.is_alive()])
+
     def test_all_calls_are_made_before_it_is_left(self):
         made = []
         with Pool(2) as pool:

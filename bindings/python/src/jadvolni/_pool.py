@@ -4,7 +4,7 @@ from __future__ import annotations
 
 from collections import deque
 from concurrent.futures import Future
-from threading import Condition, Thread
+from threading import Condition, Thread, current_thread
 from typing import Any, Callable, Iterable, Optional, TypeVar
 
 T = TypeVar("T")
@@ -42,6 +42,8 @@ class Pool:
         with self.changed:
             self.is_left = True
             self.changed.notify_all()
+        if current_thread() in self.threads:
+            return  # (it collects garbage, of which an iterator is a part: none waits for itself)
         for thread in self.threads:
             thread.join()
 
