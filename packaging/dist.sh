@@ -28,7 +28,9 @@ for file in bindings/rust/Cargo.toml bindings/python/pyproject.toml; do
 done
 grep -qx "  \"version\": \"$version\"," bindings/js/package.json ||
     fail "bindings/js/package.json has another version than jadvolni.h, $version"
-number=$(sed -n 's/.*JADVOLNI_VERSION \([0-9]*\)$/\1/p' include/jadvolni.h)
+number=$(echo "$version" | awk -F . '{ print 10000 * $1 + 100 * $2 + $3 }')
+grep -qx "#define JADVOLNI_VERSION $number" include/jadvolni.h ||
+    fail "JADVOLNI_VERSION of jadvolni.h isn't $number, as for $version"
 grep -qx "    $number" crates/jadvolni/src/version.rt ||
     fail "crates/jadvolni/src/version.rt has another version than jadvolni.h, $version"
 grep -q "\*\*State\*\*: version $version," README.md || fail "README.md has another version than jadvolni.h, $version"
