@@ -1,12 +1,14 @@
 """Tests of the threads that read blocks: they end where nobody asks for more, and start anew."""
 
 import io
+import os
 import signal
 import subprocess
 import sys
 import threading
 import time
 import unittest
+import warnings
 from unittest import mock
 
 from jadvolni import iter_table
@@ -116,6 +118,30 @@ class Pools(unittest.TestCase):
             self.assertIsNone(pool.submit(pool.__exit__).result(60))
             self.assertEqual(pool.map(abs, [-1, 2]), [1, 2])
         self.assertFalse([it for it in pool.threads if it.is_alive()])
+
+    def test_a_fork_waits_for_no_thread(self):
+        """Also where it was made while one of them held the lock."""
+        asked, held, done = threading.Event(), threading.Event(), threading.Event()
+
+        def hold():
+            asked.wait(60)
+            with pool.changed:
+                held.set()
+                done.wait(60)
+
+        with Pool(1) as pool:
+            pool.submit(hold)
+            asked.set()
+            self.assertTrue(held.wait(60))
+            with warnings.catch_warnings():  # (from Python 3.12 on, of threads)
+                warnings.simplefilter("ignore")
+                child = os.fork()
+            if not child:
+                signal.alarm(20)
+                pool.__exit__()
+                os._exit(7)
+            done.set()
+        self.assertEqual(os.waitstatus_to_exitcode(os.waitpid(child, 0)[1]), 7)
 
     def test_all_calls_are_made_before_it_is_left(self):
         made = []

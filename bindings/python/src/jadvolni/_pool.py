@@ -2,6 +2,7 @@
 
 from __future__ import annotations
 
+import os
 from collections import deque
 from concurrent.futures import Future
 from threading import Condition, Thread, current_thread
@@ -26,7 +27,8 @@ def _answer(call: _Call) -> None:
 
 class Pool:
     """At most `most` threads. If the system starts no more, those that run make all calls, and if
-    none runs, the caller's own thread does. All have ended when the block of `with` is left."""
+    none runs, the caller's own thread does. All have ended when the block of `with` is left, unless
+    one of them leaves it."""
 
     def __init__(self, most: int) -> None:
         self.most, self.running = most, 0
@@ -34,11 +36,14 @@ class Pool:
         self.calls: deque[_Call] = deque()
         self.changed = Condition()  # (whose lock guards the calls, and how many threads run)
         self.is_left = False
+        self.process = os.getpid()
 
     def __enter__(self) -> Pool:
         return self
 
     def __exit__(self, *_: object) -> None:
+        if os.getpid() != self.process:
+            return  # (a fork has no other thread, so the lock may be held by none)
         with self.changed:
             self.is_left = True
             self.changed.notify_all()
