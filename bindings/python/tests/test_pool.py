@@ -86,6 +86,7 @@ class Pools(unittest.TestCase):
     """Threads that end while they have nothing to do."""
 
     def test_rows_are_the_same_whose_threads_end_at_once(self):
+        before = threading.active_count()
         for idle in 0, 0.001:
             with mock.patch("jadvolni._pool._IDLE", idle):
                 for threads in 2, 4:
@@ -95,7 +96,7 @@ class Pools(unittest.TestCase):
                         if read % 1000 == 0:
                             time.sleep(0.01)
                     self.assertEqual(read, 5000)
-                    self.assertEqual(threading.active_count(), 1)
+                    self.assertEqual(threading.active_count(), before)
 
     def test_idle_threads_end_and_are_forgotten(self):
         with mock.patch("jadvolni._pool._IDLE", 0), Pool(3) as pool:
