@@ -16,6 +16,7 @@ block() { # KIND: the README's blocks of a kind, `console` where it names none
     awk -v kind="$1" '/^```/ { inside = !inside; there = inside && kind == ($0 == "```" ? "console" : substr($0, 4)); next } there' README.md
 }
 has() { command -v "$1" > /dev/null || { echo "skipped: there is no $1"; return 1; }; }
+given() { ls ./*."$1" > /dev/null 2>&1 || { echo "skipped: no archive is a .$1"; return 1; }; }
 if command -v rt > /dev/null; then echo "rt is on the PATH, as on no user's machine" >&2; exit 1; fi
 
 for file in *.tar.gz *.tgz *.crate; do [ ! -e "$file" ] || tar xzf "$file"; done
@@ -68,7 +69,7 @@ echo "passed: tarball: $(wc -l < commands) commands of its README"
 cc -I"$tree/include" "$sources/examples/c/ten_lines.c" "$tree/src/jadvolni.S" -o ten
 is "tarball: C over the assembly" ./ten
 
-if has cargo; then
+if has cargo && given crate; then
     mkdir src
     cp "$sources/bindings/rust/jadvolni/examples/ten_lines.rs" src/main.rs
     {
@@ -104,7 +105,7 @@ echo "passed: links of $(echo "$pages" | wc -l) pages"
 JADVOLNI_LIBRARY="$tree/lib/libjadvolni.a" venv/bin/python -m unittest discover -s "$sources/bindings/python/tests" 2> wheel.log || { cat wheel.log; exit 1; }
 echo "passed: wheel: $(sed -n '/^Ran/p' wheel.log)"
 
-[ "${2:-}" = packages ] || exit 0
+if [ "${2:-}" != packages ] || ! given deb; then exit; fi
 all() { find / -xdev \( -path /proc -o -path "$PWD" -o -path /tmp -o -path /var -o -name __pycache__ \) -prune -o -print | sort; }
 all > before
 dpkg -i ./*.deb > dpkg.log

@@ -12,8 +12,12 @@ umask 022
 cd "$(dirname "$0")/.."
 top=$PWD rt=${RT:-rt}
 fail() { echo "make dist: $1" >&2; exit 1; }
-has() {
-    for tool; do command -v "$tool" > /dev/null || { echo "left out: there is no $tool"; return 1; }; done
+has() { # WHAT TOOL..: whether what needs these tools can be made
+    what=$1
+    shift
+    for tool; do
+        command -v "$tool" > /dev/null || { echo "left out: $what, since there is no $tool"; return 1; }
+    done
 }
 without() { for tool; do command -v "$tool" > /dev/null || fail "there is no $tool"; done; }
 
@@ -28,7 +32,9 @@ for file in bindings/rust/Cargo.toml bindings/python/pyproject.toml; do
 done
 grep -qx "  \"version\": \"$version\"," bindings/js/package.json ||
     fail "bindings/js/package.json has another version than jadvolni.h, $version"
-number=$(sed -n 's/.*JADVOLNI_VERSION \([0-9]*\)$/\1/p' include/jadvolni.h)
+number=$(echo "$version" | awk -F . '{ print 10000 * $1 + 100 * $2 + $3 }')
+grep -qx "#define JADVOLNI_VERSION $number" include/jadvolni.h ||
+    fail "JADVOLNI_VERSION of jadvolni.h isn't $number, as for $version"
 grep -qx "    $number" crates/jadvolni/src/version.rt ||
     fail "crates/jadvolni/src/version.rt has another version than jadvolni.h, $version"
 grep -q "\*\*State\*\*: version $version," README.md || fail "README.md has another version than jadvolni.h, $version"
@@ -82,7 +88,7 @@ newest=$( { echo GLIBC_2.17; objdump -T "$extension" | grep -o 'GLIBC_[0-9.]*'; 
 others=$(objdump -p "$extension" | awk '$1 == "NEEDED" && $2 != "libc.so.6" { print $2 }')
 [ -z "$others" ] || fail "the wheel asks for $others, which manylinux2014 may lack"
 
-if has cargo; then
+if has 'the Rust crates' cargo; then
     echo "crates"
     git archive HEAD bindings/rust | tar x -C "$work"
     for crate in jadvolni jadvolni-sys; do
@@ -103,7 +109,7 @@ packed "jadvolni-$version.tgz" package
 cp -R build/page "$work/tree/jadvolni-page-$version"
 packed "jadvolni-page-$version.tar.gz" "jadvolni-page-$version"
 
-if has dpkg-buildpackage dh dh_python3; then
+if has 'the Debian packages' dpkg-buildpackage dh dh_python3; then
     echo "Debian packages"
     tree=$work/debian/jadvolni maintainer=$(git log -1 --format='%an <%ae>')
     mkdir "$work/debian" "$tree"

@@ -8,8 +8,19 @@ set -eu
 cd "$(dirname "$0")/.."
 root=${ROOT:-$PWD/build/system} suite=${SUITE:-trixie}
 has() { command -v "$1" > /dev/null || { echo "skipped: there is no $1"; return 1; }; }
+has_archives() { ls "$2"/*."$1" > /dev/null 2>&1; } # KIND FOLDER
 [ -f dist/SHA256SUMS ] || { echo "make test-dist: there is no dist/SHA256SUMS; make dist writes it" >&2; exit 1; }
 (cd dist && sha256sum --quiet -c SHA256SUMS)
+
+# Said first, so that nobody learns it from the end of a long run.
+lacking=''
+has_archives deb dist || lacking=", dist/*.deb (make dist writes them where debhelper and dh-python are)"
+has_archives crate dist || lacking="$lacking, dist/*.crate (make dist writes them where cargo is)"
+for tool in jq lintian abidiff clang python3-config node chromium debootstrap unshare; do
+    command -v "$tool" > /dev/null || lacking="$lacking, $tool"
+done
+[ "$(id -u)" = 0 ] || lacking="$lacking, root"
+[ -z "$lacking" ] || echo "make test-dist skips the parts that need what it lacks: ${lacking#, }"
 if has jq && ! jq -e -f packaging/sbom_check.jq dist/*.spdx.json > /dev/null; then
     echo "the SBOM lacks what SPDX 2.3 asks for" >&2
     exit 1
@@ -25,7 +36,7 @@ chmod 755 "$given/rt"
 grep -q 'layout passed' build/sources.log || { cat build/sources.log; exit 1; }
 echo "passed: sources: $(grep -c ' passed after ' build/sources.log) parts of the gate"
 rm -r "${given:?}"/*
-if has lintian; then lintian --allow-root --fail-on error,warning dist/*.deb; fi
+if has_archives deb dist && has lintian; then lintian --allow-root --fail-on error,warning dist/*.deb; fi
 if [ -z "${LAST:-}" ]; then
     echo "skipped: abidiff has no release before, whose folder LAST would name"
 elif has abidiff; then

@@ -74,7 +74,9 @@ CASES = [
     Case("make vendor DEST=/proc", "/proc can't be written to"),
     Case("make vendor DEST=. WITH=nothing", "WITH has nothing, which is none of "),
     Case("make install PREFIX=usr", "PREFIX=usr: it has to begin with a slash"),
-    # From here on the tree has a bad line.
+    # From here on the tree has a release of one file, and then a bad line.
+    Case("mkdir dist; sha256sum /dev/null > dist/SHA256SUMS; packaging/test_dist.sh",
+         "lacks: dist/*.deb (make dist writes them where debhelper and dh-python are)"),
     Case("echo ======= >> bench/causes.txt; python3 tools/documents.py",
          "neither a cause nor a case of one: ======="),
     Case("echo ======= >> bench/calls.tsv; python3 tools/documents.py",

@@ -48,7 +48,7 @@ def texts_of(path: str):
     """The texts of a file's numbers, by their names, as they stand there."""
     parser = configparser.ConfigParser(interpolation=None)
     try:
-        with open(path, encoding="utf-8") as file:
+        with open(path, encoding="utf-8-sig") as file:
             if path.endswith(".json"):
                 return dict(json.load(file, parse_int=str, parse_float=str))
             parser.read_file(file)

@@ -5,6 +5,7 @@ import { once } from "node:events";
 import { mkdirSync, readdirSync } from "node:fs";
 import { join } from "node:path";
 import { test } from "node:test";
+import { fileURLToPath } from "node:url";
 import { Worker } from "node:worker_threads";
 import { formats, parse } from "../../bindings/js/index.js";
 import { folder, loadWith, MODULE, PACKAGE, replacing } from "./copies.js";
@@ -37,6 +38,20 @@ test("an engine without 64-bit memories is told what it lacks", () => {
     assert.notEqual(status, 0);
     assert.match(stderr, /this engine has no 64-bit WebAssembly memory: .*from 20 with --experimental-wasm-memory64/);
   }
+});
+
+test("CommonJS has the package by import() alone", () => {
+  const index = JSON.stringify(fileURLToPath(new URL("../../bindings/js/index.js", import.meta.url)));
+  const flags = process.execArgv.filter((it) => it.includes("memory64"));
+  const run = (code) => {
+    const words = [...flags, "--input-type=commonjs", "-e", code];
+    return spawnSync(process.execPath, words, { encoding: "utf8", env: {} });
+  };
+  const { stdout, stderr } = run(`import(${index}).then(({ parse }) => console.log(parse("12", "u8")));`);
+  assert.equal(stdout, "12\n", stderr);
+  const required = run(`require(${index});`);
+  assert.notEqual(required.status, 0);
+  assert.match(required.stderr, /ERR_REQUIRE_(ASYNC_MODULE|ESM)/);
 });
 
 const skip = spawnSync("npm", ["--version"]).status !== 0 && "there is no npm";

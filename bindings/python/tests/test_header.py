@@ -139,6 +139,24 @@ class Names(unittest.TestCase):
                 self.assertEqual(str(told.exception), message)
         self.assertEqual(self.found(b"id,x,x,amount\n1,a,b,-80000\n2,,,7\n", COLUMNS), WANTED)
 
+    def test_a_note_names_the_file(self):
+        self.path.write_bytes(TEXT)
+        wanted = [f"The file is {self.path}."]
+        calls = [lambda more=more: read_table(self.path, {"x": "u8"}, header=True, **more)
+                 for more in ({}, {"mmap": True}, {"threads": 2}, {"out": {"x": array("B", [0])}})]
+        with open(self.path, "rb") as file:
+            calls.append(lambda: next(iter_table(file, {"x": "u8"}, header=True)))
+            for call in calls:
+                with self.assertRaisesRegex(ValueError, "^the header has no column 'x'") as told:
+                    call()
+                self.assertEqual(told.exception.__notes__, wanted)
+        for call in (lambda: parse_table(TEXT, {"x": "u8"}, header=True),
+                     lambda: read_table(io.BytesIO(TEXT), {"x": "u8"}, header=True),
+                     lambda: read_table(self.path, {"what": "u8"}, header=True)):
+            with self.assertRaises(ValueError) as told:
+                call()
+            self.assertFalse(hasattr(told.exception, "__notes__"))
+
     def test_faults_count_from_the_texts_start(self):
         self.assertEqual(self.found(TEXT + b"3,,8x\n", COLUMNS), (
             "InvalidDigit", 2, 2, 38, 3, "amount", 34, 40, b"8x",

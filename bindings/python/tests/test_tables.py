@@ -253,6 +253,9 @@ class Tables(unittest.TestCase):
         for file in ("table.csv", pathlib.Path("table.csv"), 7):
             with self.assertRaisesRegex(TypeError, 'file has to be one opened by "rb", and not '):
                 next(iter_table(file, {"a": "u8"}))
+        for text in b"1\n", bytearray(b"1\n"), memoryview(b"1\n"):
+            with self.assertRaisesRegex(TypeError, ": parse_table and parse_column read what is"):
+                read_table(text, {"a": "u8"})
         self.assertRaises(TypeError, next, iter_table(io.StringIO("1"), {"a": "u8"}))
         self.assertRaises(FileNotFoundError, read_table, "no/such/file", LEDGER)
         self.assertEqual(parse_table(b"a\nb", {"a": None}), {})

@@ -163,6 +163,8 @@ class Service(Task):
         for content, name in (
             ("[service]\nport = 8080\nworkers: 4\noffset=-60\n", "service.ini"),
             ('{"port": 8080, "offset": -60, "workers": "4", "name": "a"}', "service.json"),
+            (f"{BOM}[service]\r\nport=8080\r\nworkers=4\r\noffset=-60", "service.ini"),
+            (f'{BOM}{{"port": 8080, "workers": 4, "offset": -60}}', "service.json"),
         ):
             path = self.file(content, name)
             texts, found = service.texts_of(path), {"port": 8080, "workers": 4, "offset": -60}

@@ -35,7 +35,9 @@ def _one_or_more(name: str, value: object) -> int:
 def _block(file: File, size: int) -> bytes:
     """The next bytes of a file, or none at its end."""
     if not hasattr(file, "read"):
-        raise TypeError(f"file has to be one opened by \"rb\", and not {type(file).__name__}")
+        known = isinstance(file, (bytes, bytearray, memoryview))
+        hint = ": parse_table and parse_column read what is in memory" if known else ""
+        raise TypeError(f"file has to be one opened by \"rb\", and not {type(file).__name__}{hint}")
     block = file.read(min(size, sys.maxsize))
     if isinstance(block, bytes):
         return block

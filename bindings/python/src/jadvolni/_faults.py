@@ -3,8 +3,9 @@
 from __future__ import annotations
 
 import codecs
-from typing import (TYPE_CHECKING, Any, Callable, Literal, NamedTuple, Optional, Protocol, Sequence,
-                    Union)
+from contextlib import contextmanager
+from typing import (TYPE_CHECKING, Any, Callable, Iterator, Literal, NamedTuple, Optional, Protocol,
+                    Sequence, Union)
 
 from ._core import ParseError, _lines
 
@@ -60,6 +61,18 @@ def at_fault(on_error: object, errors: Any, source: object = None) -> AtFault:
         kind = type(errors).__name__
         raise TypeError(f"errors has to be a list, a function or None, and not {kind}")
     return AtFault(skips, tell, _printable(source) if isinstance(source, str) else "")
+
+
+@contextmanager
+def noting(source: str) -> Iterator[None]:
+    """Notes the file's name, if there is one, on what is wrong with a header. The message of a
+    ParseError has it already."""
+    try:
+        yield
+    except ValueError as error:
+        if source and not isinstance(error, ParseError):
+            error.add_note(f"The file is {source}.")
+        raise
 
 
 def _printable(name: str) -> str:

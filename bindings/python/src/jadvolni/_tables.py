@@ -12,7 +12,7 @@ from typing import (TYPE_CHECKING, Any, BinaryIO, Callable, ContextManager, Iter
 
 from ._blocks import File, _block, _blocks, _one_or_more, keep_memory
 from ._core import _row_count, _text_size
-from ._faults import AtFault, Errors, OnError, Part, at_fault
+from ._faults import AtFault, Errors, OnError, Part, at_fault, noting
 from ._files import Texts, read_texts, whole_rows
 from ._header import read_header, with_header
 from ._reader import How, Reader, ask_type
@@ -107,9 +107,11 @@ def _parse_text(text: Text, asked: _Asked) -> Table:
         return _parse(asked.reader(), text, asked.out, threads, Part())
     _text_size(text)  # (this refuses what is no text)
     with memoryview(bytes_of(text) if isinstance(text, str) else text) as whole:
-        names, _, before = read_header(_parts(whole), asked.how, sys.maxsize)
+        with noting(asked.at.source):
+            names, _, before = read_header(_parts(whole), asked.how, sys.maxsize)
+            reader = asked.reader(names)
         with whole[before.start:] as rest:
-            return _parse(asked.reader(names), rest, asked.out, threads, before)
+            return _parse(reader, rest, asked.out, threads, before)
 
 
 def parse_table(
@@ -224,9 +226,10 @@ def read_table(
     program changes the file meanwhile: if the file is truncated, a signal ends this process.
 
     Everything else is as in parse_table. ParseError counts from where reading began, and its
-    message begins with the file's name. If the first row is bad, or the header, the error says
-    whether the file seems to be compressed by gzip, a zip archive, or in UTF-16. OSError is raised
-    if the file can't be opened or read, and TypeError for `mmap` with an opened file.
+    message begins with the file's name, which another ValueError about a header has as a note. If
+    the first row is bad, or the header, the error says whether the file seems to be compressed by
+    gzip, a zip archive, or in UTF-16. OSError is raised if the file can't be opened or read, and
+    TypeError for `mmap` with an opened file.
     """
     how = How(separator, has_returns, has_quotes, allows_blanks, skips_empty_rows, missing, widths,
               is_records, allows_returns)
@@ -286,8 +289,9 @@ def _opened(
     if not asked.header:
         reader = asked.reader()
         return reader, whole_rows(blocks, reader, most, Part()), 0
-    names, blocks, before = read_header(blocks, asked.how, most)
-    reader = asked.reader(names)
+    with noting(asked.at.source):
+        names, blocks, before = read_header(blocks, asked.how, most)
+        reader = asked.reader(names)
     return reader, whole_rows(blocks, reader, most, before), before.start
 
 
