@@ -80,6 +80,21 @@ fn value_of_blocks<T: Integer>(digits: &[u8], size: usize, is_negative: bool) ->
     }
 }
 
+// The value of more than eight digits, for which the type has room, with a minus where `is_negative`. Out of line, so that
+// fewer digits need no stack frame.
+#[inline(never)]
+fn value_of_many<T: Integer>(digits: &[u8], is_negative: bool) -> Option<T>
+    requires many { 8 < length digits.now }
+    requires room { 16 ^ length digits.now ≤ number_limit T.TYPE }
+    requires minus { IsTrue is_negative → IsTrue T.TYPE.is_signed }
+    ensures { IfSome result (λ value. StandsFor T.TYPE 16 is_negative digits.now (T.number value)) }
+{
+    if digits.len() > 16 {
+        return value_by_table::<T>(digits, 16, is_negative);
+    }
+    value_of_blocks::<T>(digits, 8, is_negative)
+}
+
 /// The value of hexadecimal digits, with a minus where `is_negative`. Each range of lengths ends on its own, so
 /// that no text pays for what another one needs. Out of line, so that decimal texts don't either.
 #[inline(never)]
@@ -101,8 +116,5 @@ pub fn value_of_nibbles<T: Integer>(digits: &[u8], is_negative: bool) -> Option<
     if n <= 8 {
         return value_of_blocks::<T>(digits, 4, is_negative);
     }
-    if n <= 16 {
-        return value_of_blocks::<T>(digits, 8, is_negative);
-    }
-    value_by_table::<T>(digits, 16, is_negative)
+    value_of_many::<T>(digits, is_negative)
 }

@@ -11,5 +11,5 @@ value_of_blocks-requires-then-n-le4-clause-room g c = room_below _ _ (length c.a
 pub value_of_blocks-requires-then-n-le8-clause-room : goal.value_of_blocks-requires-then-n-le8-clause-room
 value_of_blocks-requires-then-n-le8-clause-room g c = room_below _ _ (length c.args.digits.now) c.overflow_digits.ensures.room (omega (arith, c.if-n-overflow_digits.false))
 
-pub value_of_blocks-requires-then-n-le16-clause-room : goal.value_of_blocks-requires-then-n-le16-clause-room
-value_of_blocks-requires-then-n-le16-clause-room g c = room_below _ _ (length c.args.digits.now) c.overflow_digits.ensures.room (omega (arith, c.if-n-overflow_digits.false))
+pub value_of_many-requires-clause-room : goal.value_of_many-requires-clause-room
+value_of_many-requires-clause-room g c = room_below _ _ (length c.args.digits.now) c.overflow_digits.ensures.room (omega (arith, c.if-n-overflow_digits.false))
