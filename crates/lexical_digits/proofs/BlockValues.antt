@@ -48,14 +48,6 @@ room_below t o n room few =
     let up : 16 ^ n ≤ 16 ^ o = pow-le-pow_right {n = 16} (omega arith) few in
     omega arith
 
--- room for more than eight digits is more than the scale of eight
-pub room_above : (n limit : ℕ) → 8 < n → 16 ^ n ≤ limit → 16 ^ 8 < limit
-room_above n limit many room =
-    let more : 9 ≤ n = omega arith in
-    let up : 16 ^ 9 ≤ 16 ^ n = pow-le-pow_right {n = 16} (omega arith) more in
-    let step : 16 ^ 8 < 16 ^ 9 = omega arith in
-    omega arith
-
 pub whole_below : (n : ℕ) (text : List ℕ) (limit : ℕ) → WritesFront 16 text (length text) (pos n) → 16 ^ length text ≤ limit → n < limit
 whole_below n text limit w room =
     let worth : n ≡ positional_value 16 w.values = pos-injective n (positional_value 16 w.values) w.worth in
