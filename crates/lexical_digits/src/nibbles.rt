@@ -113,8 +113,8 @@ fn value_to_eight<T: Integer>(digits: &[u8], is_negative: bool) -> Option<T>
     value_of_blocks::<T>(digits, 4, is_negative)
 }
 
-// The value of nine digits and more. Out of line, so that fewer digits need no stack frame.
-#[inline(never)]
+// The value of nine digits and more.
+#[inline(always)]
 fn value_from_nine<T: Integer>(digits: &[u8], is_negative: bool) -> Option<T>
     requires some { 8 < length digits.now }
     requires minus { IsTrue is_negative → IsTrue T.TYPE.is_signed }
