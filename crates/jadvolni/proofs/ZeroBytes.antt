@@ -85,6 +85,25 @@ standard_word a b c d e f g h sa sb sc sd se sf sg same =
       flag = omega (arith, at_g.1);
     }
 
+-- The first bytes of a hexadecimal format whose prefix is `x`.
+pub record AreOfX (a b c d : ℕ) : Type 0 where
+  pub radix : a ≡ 16
+  pub separator : b ≡ 0
+  pub prefix : c ≡ 120
+  pub suffix : d ≡ 0
+
+pub word_of_x : (a b c d : ℕ) → a < 256 → b < 256 → c < 256
+    → from_le_bytes w32 (a ∷ b ∷ c ∷ d ∷ []) ≡ 7864336 → AreOfX a b c d
+word_of_x a b c d sa sb sc same =
+    let r3 = d + 256 * 0 in
+    let r2 = c + 256 * r3 in
+    let r1 = b + 256 * r2 in
+    let whole : a + 256 * r1 ≡ 16 + 256 * 30720 = omega arith in
+    let at_a = byte_of a r1 16 30720 sa (omega arith) whole in
+    let at_b = byte_of b r2 0 120 sb (omega arith) (omega (arith, at_a.1)) in
+    let at_c = byte_of c r3 120 0 sc (omega arith) (omega (arith, at_b.1)) in
+    record { radix = at_a.0; separator = at_b.0; prefix = at_c.0; suffix = omega (arith, at_c.1) }
+
 -- two numbers have no bit where both are 0
 or_is_zero : (a b : ℕ) → nat_eq (bit_or a b) 0 ≡ (nat_eq a 0 && nat_eq b 0)
 or_is_zero a b =

@@ -4,6 +4,7 @@
 
 ghost use Rattle.std.specs.Int.{from_le_bytes, w64};
 ghost use Rattle.std.specs.Prelude.{◌≡◌, ◌↔◌, ◌&&◌, ◌∷◌, [], IsTrue, None, false, true};
+ghost use Rattle.lexical_util.specs.Ascii.{letter_x};
 ghost use Rattle.lexical_util.specs.Format.{standard};
 ghost use Rattle.lexical_util.specs.Kind.{is_punctuated, kind_of};
 ghost use Rattle.lexical_util.specs.Validity.{fault};
@@ -120,6 +121,24 @@ fn asks_for_ten_alone(fields: FormatFields) -> bool
         ∷ fields.required_integer_digits ∷ [])) }
 {
     first_word(&fields) == 0x100_0000_0000_000A
+}
+
+// Whether the first four bytes ask for hexadecimal digits behind `0x`, and for no more.
+#[inline(always)]
+#[tactic(auto, using(crate::proofs::ZeroBytes::word_of_x))]
+fn asks_for_x(fields: FormatFields) -> bool
+    ensures radix { IsTrue result → fields.mantissa_radix ≡ 16 }
+    ensures separator { IsTrue result → fields.digit_separator ≡ 0 }
+    ensures prefix { IsTrue result → fields.base_prefix ≡ letter_x }
+    ensures suffix { IsTrue result → fields.base_suffix ≡ 0 }
+{
+    let first = u32::from_le_bytes([
+        fields.mantissa_radix,
+        fields.digit_separator,
+        fields.base_prefix,
+        fields.base_suffix,
+    ]);
+    first == 0x78_0010
 }
 
 // Whether the first eight bytes are 0.
@@ -297,7 +316,8 @@ impl FormatFields {
     }
 
     // Whether the format is surely a valid one with punctuation, as those of most languages are: decimal, with the separator
-    // `_`, or with literals or a required sign alone; or hexadecimal with `0x`. The first four bytes are asked as a word.
+    // `_` or a comma, or with literals or a required sign alone; or hexadecimal with `0x`. The first four bytes are asked as a
+    // word.
     #[inline(always)]
     #[tactic(auto, using(lexical_util::proofs::FormatKinds::other_kind))]
     fn is_surely_other(&self) -> bool
@@ -312,7 +332,7 @@ impl FormatFields {
             self.base_prefix,
             self.base_suffix,
         ]);
-        if first == 0x5F0A {
+        if first == 0x5F0A || first == 0x2C0A {
             return true;
         }
         if first == 10 {
@@ -320,12 +340,7 @@ impl FormatFields {
                 || self.literal_octal_zero != 0
                 || self.required_mantissa_sign != 0;
         }
-        self.mantissa_radix == 16
-            && self.base_prefix == b'x'
-            && self.digit_separator == 0
-            && self.base_suffix == 0
-            && self.literal_prefixes == 0
-            && self.literal_octal_zero == 0
+        asks_for_x(*self) && self.literal_prefixes == 0 && self.literal_octal_zero == 0
     }
 
     // The same kind of any format: by its rules. A function of its own, so that the one before it needs no stack.

@@ -80,11 +80,11 @@ fn value_of_blocks<T: Integer>(digits: &[u8], size: usize, is_negative: bool) ->
     }
 }
 
-/// The value of hexadecimal digits, with a minus where `is_negative`. Each range of lengths ends on its own, so
-/// that no text pays for what another one needs. Out of line, so that decimal texts don't either.
-#[inline(never)]
-pub fn value_of_nibbles<T: Integer>(digits: &[u8], is_negative: bool) -> Option<T>
+// The value of up to four digits.
+#[inline(always)]
+fn value_to_four<T: Integer>(digits: &[u8], is_negative: bool) -> Option<T>
     requires some { 1 ≤ length digits.now }
+    requires few { length digits.now ≤ 4 }
     requires minus { IsTrue is_negative → IsTrue T.TYPE.is_signed }
     ensures { IfSome result (λ value. StandsFor T.TYPE 16 is_negative digits.now (T.number value)) }
 {
@@ -95,14 +95,56 @@ pub fn value_of_nibbles<T: Integer>(digits: &[u8], is_negative: bool) -> Option<
     if n <= 2 {
         return value_of_blocks::<T>(digits, 1, is_negative);
     }
+    value_of_blocks::<T>(digits, 2, is_negative)
+}
+
+// The value of five to eight digits.
+#[inline(always)]
+fn value_to_eight<T: Integer>(digits: &[u8], is_negative: bool) -> Option<T>
+    requires some { 4 < length digits.now }
+    requires few { length digits.now ≤ 8 }
+    requires minus { IsTrue is_negative → IsTrue T.TYPE.is_signed }
+    ensures { IfSome result (λ value. StandsFor T.TYPE 16 is_negative digits.now (T.number value)) }
+{
+    let n = digits.len();
+    if n > T::overflow_digits(16) {
+        return None;
+    }
+    value_of_blocks::<T>(digits, 4, is_negative)
+}
+
+// The value of nine digits and more.
+#[inline(always)]
+fn value_from_nine<T: Integer>(digits: &[u8], is_negative: bool) -> Option<T>
+    requires some { 8 < length digits.now }
+    requires minus { IsTrue is_negative → IsTrue T.TYPE.is_signed }
+    ensures { IfSome result (λ value. StandsFor T.TYPE 16 is_negative digits.now (T.number value)) }
+{
+    let n = digits.len();
+    if n > T::overflow_digits(16) {
+        return None;
+    }
+    if n > 16 {
+        return value_by_table::<T>(digits, 16, is_negative);
+    }
+    value_of_blocks::<T>(digits, 8, is_negative)
+}
+
+/// The value of hexadecimal digits, where the type surely has room for so many, with a minus where `is_negative`. Each
+/// range of lengths ends on its own, so that no text pays for what another one needs. Out of line, so that decimal texts
+/// don't either.
+#[inline(never)]
+pub fn value_of_nibbles<T: Integer>(digits: &[u8], is_negative: bool) -> Option<T>
+    requires some { 1 ≤ length digits.now }
+    requires minus { IsTrue is_negative → IsTrue T.TYPE.is_signed }
+    ensures { IfSome result (λ value. StandsFor T.TYPE 16 is_negative digits.now (T.number value)) }
+{
+    let n = digits.len();
     if n <= 4 {
-        return value_of_blocks::<T>(digits, 2, is_negative);
+        return value_to_four::<T>(digits, is_negative);
     }
     if n <= 8 {
-        return value_of_blocks::<T>(digits, 4, is_negative);
+        return value_to_eight::<T>(digits, is_negative);
     }
-    if n <= 16 {
-        return value_of_blocks::<T>(digits, 8, is_negative);
-    }
-    value_by_table::<T>(digits, 16, is_negative)
+    value_from_nine::<T>(digits, is_negative)
 }

@@ -43,11 +43,17 @@ none_behind text j n count within w few more =
     let byte : get_or (slice_range text j (length text)) count 0 ≡ get_or text (j + count) 0 = ap (λ (bs : List ℕ). get_or bs count 0) (rest_is text j) ∙ get_or-drop j text count 0 in
     subst (λ k. IsNone (digit 10 k)) byte (w.stops few (omega arith))
 
--- digits without a zero in front keep the zero rule
-pub nonzero_keeps : (f : Format) (digits : List ℕ) → slice_index digits 0 ≢ 48 → keeps_zero_rule f digits ≡ true
-nonzero_keeps f digits other =
-    let none : (slice_index digits 0 == 48) ≡ false = ne_eqb (slice_index digits 0) 48 other in
-    rw (none, and-false (f.no_integer_leading_zeros && nat_le 2 (length digits))) refl
+-- digits keep the zero rule where a format that has it sees no zero in front of them
+pub nonzero_from : (f : Format) (text : List ℕ) (start : ℕ) → (f.no_integer_leading_zeros ≡ true → slice_index text start ≢ 48) → keeps_zero_rule f (slice_range text start (length text)) ≡ true
+nonzero_from f text start other =
+    let place : start + 0 ≡ start = omega arith in
+    let first : slice_index (slice_range text start (length text)) 0 ≡ slice_index text start = ap (λ (bs : List ℕ). get_or bs 0 0) (rest_is text start) ∙ get_or-drop start text 0 0 ∙ ap (λ (k : ℕ). get_or text k 0) place in
+    by_flag f.no_integer_leading_zeros _ (slice_index (slice_range text start (length text)) 0 == 48)
+    (λ asked. ne_eqb (slice_index (slice_range text start (length text)) 0) 48 (subst (λ (k : ℕ). k ≢ 48) (sym first) (other asked)))
+  where
+    by_flag : (flag more zero_first : Bool) → (flag ≡ true → zero_first ≡ false) → not ((flag && more) && zero_first) ≡ true
+    by_flag false more zero_first other = refl
+    by_flag true more zero_first other = rw (other refl, and-false more) refl
 
 -- fewer digits keep the zero rule too
 pub fewer_keep : (f : Format) (k : ℕ) (digits : List ℕ) → 1 ≤ k → k ≤ length digits → keeps_zero_rule f digits ≡ true → keeps_zero_rule f (take k digits) ≡ true

@@ -3,7 +3,7 @@
 //
 // As under formats without punctuation, only what is sure is answered: a value that its type has. `None` says nothing: what
 // is left is read from its front.
-ghost use Rattle.std.specs.Prelude.{◌≡◌, ◌<◌, ◌||◌, IfSome, IsNone, IsTrue, None, Some, Ok, false, length, slice_index, true};
+ghost use Rattle.std.specs.Prelude.{◌≡◌, ◌+◌, ◌<◌, ◌||◌, IfSome, IsNone, IsTrue, None, Some, Ok, false, length, slice_index, true};
 ghost use Rattle.lexical_util.specs.Ascii.{digit_zero, letter_x};
 ghost use Rattle.lexical_util.specs.Validity.{fault};
 ghost use Rattle.lexical_parse_integer.specs.Affixes.{matches, named_radix, octal_zero_at, prefix_radix};
@@ -31,14 +31,15 @@ fn is_x(byte: u8, is_case_sensitive: bool) -> bool
     byte == b'x' || (byte == b'X' && !is_case_sensitive)
 }
 
-// Whether `0x` stands at a place at which a zero stands, where the effective radix is then 16.
+// Whether `0x` and more stands at a place at which a zero stands, where the effective radix is then 16.
 #[inline(always)]
 fn is_behind_x(bytes: &[u8], format: &NumberFormat, start: usize) -> bool
     requires some { start < length bytes.now }
     requires zero { slice_index bytes.now start ≡ digit_zero }
     ensures prefix { IsTrue result → Some 16 ≡ prefix_radix format.now bytes.now start }
+    ensures more { IsTrue result → start + 2 < length bytes.now }
 {
-    if bytes.len() - start < 2 {
+    if bytes.len() - start < 3 {
         return false;
     }
     if !is_x(bytes[start + 1], format.case_sensitive_base_prefix()) {
@@ -111,6 +112,7 @@ fn keeps_rule_behind(format: &NumberFormat, head: Head, digits: &[u8]) -> bool
 #[inline(always)]
 fn value_behind<T: Integer>(bytes: &[u8], format: &NumberFormat, head: Head) -> Option<T>
     requires valid { IsNone (fault format.now) }
+    requires some { head.start < length bytes.now }
     requires head { head_of format.now T.TYPE bytes.now ≡ Ok (record {
       is_negative = head.is_negative;
       is_prefixed = head.is_prefixed;
@@ -120,9 +122,6 @@ fn value_behind<T: Integer>(bytes: &[u8], format: &NumberFormat, head: Head) -> 
     }) }
     ensures { IfSome result (λ value. complete format.now T.TYPE bytes.now ≡ Ok (T.number value)) }
 {
-    if bytes.len() <= head.start {
-        return None;
-    }
     let digits = &bytes[head.start..];
     if !keeps_rule_behind(format, head, digits) {
         return None;
@@ -154,7 +153,10 @@ pub(super) fn value_behind_head<T: Integer>(
     }) }
     ensures { IfSome result (λ value. complete format.now T.TYPE bytes.now ≡ Ok (T.number value)) }
 {
-    if (head.radix != 10 && head.radix != 16) || format.base_suffix().is_some() {
+    if (head.radix != 10 && head.radix != 16)
+        || format.base_suffix().is_some()
+        || bytes.len() <= head.start
+    {
         return None;
     }
     value_behind::<T>(bytes, format, head)
@@ -208,7 +210,8 @@ fn head_at_once<T: Integer>(
     requires letter { IfSome format.now.base_prefix (λ prefix. 102 < prefix) }
     requires some { start < length bytes.now }
     requires sign { sign format.now T.TYPE bytes.now ≡ Ok (is_negative, start) }
-    ensures { IfSome result (λ head. head_of format.now T.TYPE bytes.now ≡ Ok (record {
+    ensures more { IfSome result (λ head. head.start < length bytes.now) }
+    ensures head { IfSome result (λ head. head_of format.now T.TYPE bytes.now ≡ Ok (record {
       is_negative = head.is_negative;
       is_prefixed = head.is_prefixed;
       is_octal = head.is_octal;
@@ -330,7 +333,7 @@ pub(super) fn value_of_groups<T: Integer>(
     if head.radix != 10 || T::BITS < 32 || !format.integer_internal_digit_separator() {
         return value_behind::<T>(bytes, format, head);
     }
-    if bytes.len() <= head.start || !keeps_rule_behind(format, head, &bytes[head.start..]) {
+    if !keeps_rule_behind(format, head, &bytes[head.start..]) {
         return None;
     }
     value_of_threes::<T>(&bytes[head.start..], format, separator, head.is_negative)

@@ -1,6 +1,6 @@
 // What the whole text stands for: its value by the reader for the format's kind, where `None` says nothing, and the answer
 // for what these readers leave.
-ghost use Rattle.std.specs.Prelude.{◌≡◌, ◌<◌, Err, IfSome, IsNone, IsTrue, Ok, Some, length};
+ghost use Rattle.std.specs.Prelude.{◌≡◌, ◌<◌, ◌≤◌, Err, IfSome, IsNone, IsTrue, Ok, Some, length};
 ghost use Rattle.lexical_util.specs.Format.{standard};
 ghost use Rattle.lexical_util.specs.Validity.{fault};
 ghost use Rattle.lexical_parse_integer.specs.Answer.{view_of};
@@ -134,6 +134,7 @@ fn complete_decimal<T: Integer>(bytes: &[u8], format: &NumberFormat) -> Result<T
 // functions of their own.
 #[inline(always)]
 fn fault_of_many<T: Integer>(bytes: &[u8]) -> Option<Error>
+    requires some { 1 ≤ length bytes.now }
     ensures { IfSome result (λ error. complete standard T.TYPE bytes.now ≡ Err error) }
 {
     fault_after_many::<T>(bytes)

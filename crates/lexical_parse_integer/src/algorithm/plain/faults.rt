@@ -1,7 +1,8 @@
 // Faults of decimal texts under formats without punctuation: most faults. And numbers of many digits there.
 //
 // `None` says nothing. Each is a call of its own, so that texts without a fault need no stack frame.
-ghost use Rattle.std.specs.Prelude.{◌≡◌, ◌<◌, ◌≤◌, Err, IfSome, IsNone, Ok, get_or, length, take};
+ghost use Rattle.std.specs.Prelude.{◌≡◌, ◌≢◌, ◌<◌, ◌≤◌, true, Err, IfSome, IsNone, Ok, get_or, length, slice_index, take};
+ghost use Rattle.lexical_util.specs.Ascii.{digit_zero};
 ghost use Rattle.lexical_util.specs.Digit.{digit};
 ghost use Rattle.lexical_util.specs.Format.{standard};
 ghost use Rattle.lexical_util.specs.declared.error.Error.TheVariants.{Empty, InvalidDigit};
@@ -84,8 +85,9 @@ pub(in crate::algorithm) fn place_after_digits<T: Integer>(
     Some(start + count)
 }
 
-// The answer for a text that has more digits than its type has surely room for, and no zero in front: the number that they
-// stand for, or the fault at the digit with which the number leaves the type, or at the first byte that is no digit.
+// The answer for a text that has more digits than its type has surely room for: the number that they stand for, or the
+// fault at the digit with which the number leaves the type, or at the first byte that is no digit. The caller asks for zeros
+// in front, since a look at the first digit alone would have the compiler load the others one by one.
 #[inline(always)]
 pub(in crate::algorithm) fn answer_after_digits<T: Integer>(
     bytes: &[u8],
@@ -96,12 +98,14 @@ pub(in crate::algorithm) fn answer_after_digits<T: Integer>(
     requires plain { IsPlain format.now }
     requires decimal { format.now.mantissa_radix ≡ 10 }
     requires sign { sign format.now T.TYPE bytes.now ≡ Ok (is_negative, start) }
+    requires zeros { format.now.no_integer_leading_zeros ≡ true
+        → slice_index bytes.now start ≢ digit_zero }
     ensures { IfSome result
         (λ answer. view_of T.number answer ≡ complete format.now T.TYPE bytes.now) }
 {
     let digits = &bytes[start..];
     let mut count = T::overflow_digits(10);
-    if digits.len() <= count || digits[0] == b'0' {
+    if digits.len() <= count {
         return None;
     }
     let mut value = value_of_digits::<T>(&digits[..count], is_negative)?;
@@ -133,11 +137,16 @@ pub(in crate::algorithm) fn place_after_few<T: Integer>(bytes: &[u8]) -> Option<
     place_after_digits::<T>(bytes, &format::STANDARD, is_negative, start)
 }
 
-// The fault of a text under the standard format that has more digits than its type has surely room for, and no zero in front.
+// The fault of a text under the standard format that has more digits than its type has surely room for, and no zero in front:
+// many zeros are read faster from the front.
 #[inline(never)]
 pub(in crate::algorithm) fn fault_after_many<T: Integer>(bytes: &[u8]) -> Option<Error>
+    requires some { 1 ≤ length bytes.now }
     ensures { IfSome result (λ error. complete standard T.TYPE bytes.now ≡ Err error) }
 {
+    if bytes[0] == b'0' {
+        return None;
+    }
     let Ok((is_negative, start)) = sign_of::<T>(bytes, &format::STANDARD) else {
         return None;
     };

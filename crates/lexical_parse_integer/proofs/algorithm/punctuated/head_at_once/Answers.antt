@@ -3,18 +3,18 @@ use Rattle.lexical_parse_integer.proofs.punctuated.BareHeads.{no_octal_here, no_
 use Rattle.lexical_parse_integer.proofs.punctuated.PunctuatedAnswers.{head_bare, head_named}
 use Rattle.lexical_parse_integer.proofs.algorithm.punctuated.head_at_once.Goals as goal
 
-pub returns-then-bytes-start-ne48 : goal.returns-then-bytes-start-ne48
-returns-then-bytes-start-ne48 g c =
+pub returns-then-bytes-start-ne48-clause-head : goal.returns-then-bytes-start-ne48-clause-head
+returns-then-bytes-start-ne48-clause-head g c =
     head_bare _ _ c.args.bytes.now (c.args.is_negative, c.args.start) false c.args.format.now.mantissa_radix c.requires.sign
     (no_prefix_here c.args.format.now c.args.bytes.now c.args.start c.requires.some c.if-bytes-start-ne48.true)
     (no_octal_here c.args.format.now c.args.bytes.now c.args.start c.requires.some c.if-bytes-start-ne48.true) refl
     ∙ ap told_head (sym c.bare_head.ensures)
 
-pub returns-then-is_behind_x : goal.returns-then-is_behind_x
-returns-then-is_behind_x g c = head_named _ _ c.args.bytes.now (c.args.is_negative, c.args.start) 16 c.requires.sign (c.if-is_behind_x.ensures.prefix refl)
+pub returns-then-is_behind_x-clause-head : goal.returns-then-is_behind_x-clause-head
+returns-then-is_behind_x-clause-head g c = head_named _ _ c.args.bytes.now (c.args.is_negative, c.args.start) 16 c.requires.sign (c.if-is_behind_x.ensures.prefix refl)
 
-pub returns-then-is_bare : goal.returns-then-is_bare
-returns-then-is_bare g c =
+pub returns-then-is_bare-clause-head : goal.returns-then-is_bare-clause-head
+returns-then-is_bare-clause-head g c =
     head_bare _ _ c.args.bytes.now (c.args.is_negative, c.args.start) false c.args.format.now.mantissa_radix c.requires.sign
     (c.if-is_bare.ensures.prefix refl) (c.if-is_bare.ensures.octal refl) refl
     ∙ ap told_head (sym c.bare_head-then-is_bare.ensures)

@@ -13,12 +13,12 @@ value_of_threes-requires-clause-no_digit g c =
     subst (λ (r : ℕ). digit r c.args.separator ≡ None) (told.decimal refl) (fit.separator c.args.separator c.requires)
 
 pub value_of_threes-requires-clause-minus : goal.value_of_threes-requires-clause-minus
-value_of_threes-requires-clause-minus g c = head_signed _ _ c.args.bytes.now _ c.in_ok-head.ensures
+value_of_threes-requires-clause-minus g c = head_signed _ _ c.args.bytes.now _ c.in_ok-head.ensures.head
 
 pub returns-clause-answer : goal.returns-clause-answer
 returns-clause-answer g c =
     let valid : IsNone (fault c.args.format.now) = valid_from _ (c.is_valid.ensures.0 c.if-not-is_valid.false) in
     let rule = sym c.keeps_rule_behind.ensures ∙ c.if-not-keeps_rule_behind.false in
     if_both c.value_of_threes.result
-    (λ v grouped worth. groups_read _ _ c.args.bytes.now _ _ 10 valid c.in_ok-head.ensures c.if-head-ne10.false c.if-bytes-head.false rule grouped worth)
+    (λ v grouped worth. groups_read _ _ c.args.bytes.now _ _ 10 valid c.in_ok-head.ensures.head c.if-head-ne10.false c.in_ok-head.ensures.more rule grouped worth)
     c.value_of_threes.ensures.grouped c.value_of_threes.ensures.worth
