@@ -11,6 +11,7 @@ pub mod fixed_calls;
 mod fixed_columns;
 pub mod fold;
 pub mod format;
+mod format_words;
 pub mod fronts;
 pub mod halves;
 pub mod lines;

@@ -1,6 +1,6 @@
 use Rattle.std.proofs.Common.{◌≡◌, ◌∙◌, ap₂, nat_eq, bit_or, length, rules}
 use Rattle.jadvolni.proofs.ZeroBytes.{words_of_zeros}
-use Rattle.jadvolni.proofs.format.asks_for_no_literals.Goals as goal
+use Rattle.jadvolni.proofs.format_words.asks_for_no_literals.Goals as goal
 
 pub returns : goal.returns
 returns c =
