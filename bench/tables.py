@@ -136,8 +136,8 @@ ABOUT = ("The cells are of `i64`, with a comma between two of a row. A block fro
          "and an amount with two places. Its texts are places for the C call, bytes that aren't "
          "decoded for `read_table`, and `str` for pandas, whose amounts are floats. One pass over "
          "the bytes only counts line feeds and commas, by 64 bytes at once: no reader by such "
-         "lanes takes less. While other guests load the processor, all but `from_chars` slow down: "
-         "runs at such a time gave 0.8 to 1.4 for the C call.")
+         "lanes takes less. While other guests load the processor, all readers slow down, "
+         "`from_chars` least: then the C call took 0.8 to 1.4.")
 
 
 def by_csv(text: bytes) -> list[list[int]]:
