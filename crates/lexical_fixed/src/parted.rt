@@ -46,7 +46,8 @@ fn value_as_written<T: Integer>(digits: &[u8], count: usize, is_negative: bool) 
     requires minus { IsTrue is_negative → IsTrue T.TYPE.is_signed }
     requires some { 1 ≤ length digits.now }
     requires before { 1 ≤ count → count + 2 ≤ length digits.now }
-    ensures { IfSome result (λ value. IsSummed T.TYPE is_negative digits.now count (T.number value)) }
+    ensures { IfSome result
+        (λ value. IsSummed T.TYPE is_negative digits.now count (T.number value)) }
 {
     let size = digits.len();
     let place = if count == 0 { size } else { size - 1 - count };
