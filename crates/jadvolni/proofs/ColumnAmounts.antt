@@ -1,18 +1,12 @@
 -- Columns of amounts that are read at once.
-use Rattle.std.proofs.Common.{◌≡◌, ◌≢◌, ◌∙◌, ◌==◌, Bool, true, false, cond, length, Option, Some, None, refl, ap, sym, subst}
-use Rattle.std.proofs.lemmas.Bool.{eqb-true, false≢true}
-use Rattle.lexical_util.specs.Number.{IntegerType}
+use Rattle.std.proofs.Common.{◌≡◌, ◌≢◌, ◌∙◌, Some, ap, sym, subst}
 use Rattle.lexical_tables.specs.Amounts.{AreAmounts, AreAmountsIfFixed, HasAmounts, HasAmountsIfFixed, IsQuick}
-use Rattle.lexical_tables.specs.Readings.{FixedPoints, Integers}
-use Rattle.lexical_tables.specs.Targets.{TargetView}
 use Rattle.jadvolni.specs.Arrays.{array_as, array_in, number_type}
 use Rattle.jadvolni.specs.Fixed.{fixed_of}
-use Rattle.jadvolni.specs.FormatFields.{format_of}
-use Rattle.jadvolni.specs.Tables.{reading_of, target_as, target_of, text_target}
+use Rattle.jadvolni.specs.Tables.{target_as, target_of}
 use Rattle.jadvolni.specs.declared.arrays.NumberType.{NumberType}
-use Rattle.jadvolni.specs.declared.fixed.FixedFields.{FixedFields}
 use Rattle.jadvolni.specs.declared.table_columns.ColumnFields.{ColumnFields}
-use Rattle.jadvolni.proofs.ColumnNumbers.{array_named, as_fixed_points, no_array}
+use Rattle.jadvolni.proofs.ColumnNumbers.{array_named, as_fixed_points}
 
 -- a column of numbers that have places has amounts where its description says so
 pub amounts_there : (column : ColumnFields) (type : NumberType) → number_type column.arrays ≡ Some type

@@ -6,8 +6,11 @@ use Rattle.std.proofs.lemmas.Bool.{eqb-true, false_from_ne_true, false≢true}
 use Rattle.std.proofs.lemmas.List.{length-map, map-set}
 use Rattle.lexical_util.specs.declared.error.Error.{Error}
 use Rattle.lexical_util.specs.Format.{Format, standard}
+use Rattle.lexical_util.specs.Kind.{is_punctuated, kind_of}
 use Rattle.lexical_util.specs.Number.{IntegerType}
 use Rattle.lexical_util.specs.Validity.{fault}
+use Rattle.lexical_util.specs.declared.format.kind.FormatKind.TheVariants.{Plain}
+use Rattle.lexical_util.proofs.FormatKinds.{kind_with}
 use Rattle.lexical_parse_integer.specs.Answer.{view_of}
 use Rattle.lexical_fields.specs.Fields.{FieldView}
 use Rattle.lexical_fields.specs.ReadFields.{field_answer}
@@ -29,6 +32,14 @@ use Rattle.jadvolni.specs.declared.table_columns.ColumnFields.{ColumnFields}
 use Rattle.jadvolni.specs.declared.text_columns.TextFields.{TextFields}
 
 -- ---- what numbers are read as
+
+-- the kind of a valid format without punctuation, of another radix than 10
+pub plain_kind : (format : Format) → fault format ≡ None → is_punctuated format ≡ false → format.mantissa_radix ≢ 10
+    → kind_of format ≡ Plain
+plain_kind format valid bare other =
+    let no_ten : (format.mantissa_radix == 10) ≡ false = false_from_ne_true (format.mantissa_radix == 10)
+    (λ is. other (eqb-true format.mantissa_radix 10 is)) in
+    kind_with format None (sym valid) ∙ rw (bare, no_ten) refl
 
 -- a plain description is that beside the standard format
 pub plain_is : (fields : FixedFields) (format : Fixed) → IsPlainFixed fields

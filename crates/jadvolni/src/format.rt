@@ -104,18 +104,6 @@ impl FormatFields {
         first == 10 && asks_for_no_literals(self) && self.required_mantissa_sign == 0
     }
 
-    /// Whether the radix isn't 10, and neither a separator, a prefix or a suffix nor the prefixes of literals are asked for.
-    #[inline(always)]
-    pub(crate) fn has_radix_alone(&self) -> bool {
-        let first = u32::from_le_bytes([
-            self.mantissa_radix,
-            self.digit_separator,
-            self.base_prefix,
-            self.base_suffix,
-        ]);
-        first <= 0xFF && first != 10 && self.literal_prefixes == 0
-    }
-
     /// Whether all fields but the radix are those of the standard format.
     ///
     /// The fields are asked in their order, as four words of eight bytes.
@@ -273,7 +261,7 @@ impl FormatFields {
 
     // The kind of a valid format: where punctuation is set, nothing else decides it.
     #[inline(always)]
-    #[tactic(auto, using(lexical_util::proofs::FormatKinds::other_kind, lexical_util::proofs::FormatKinds::decimal_kind))]
+    #[tactic(auto, using(lexical_util::proofs::FormatKinds::other_kind, lexical_util::proofs::FormatKinds::decimal_kind, crate::proofs::ColumnNumbers::plain_kind))]
     fn valid_kind(&self) -> FormatKind
         requires { fault (format_of self.now) ≡ None }
         ensures { result ≡ kind_of (format_of self.now) }
@@ -281,10 +269,14 @@ impl FormatFields {
         if self.is_punctuated() {
             return FormatKind::Other;
         }
-        if self.nul_is_punctuation == 0 && self.mantissa_radix == 10 {
-            return FormatKind::Decimal;
+        if self.nul_is_punctuation != 0 {
+            return self.kind_first();
         }
-        self.kind_first()
+        if self.mantissa_radix == 10 {
+            FormatKind::Decimal
+        } else {
+            FormatKind::Plain
+        }
     }
 
     /// The format of fields for which it is valid: its kind is found by fewer tests, as for each cell of a column.

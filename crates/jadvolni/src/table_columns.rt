@@ -13,7 +13,7 @@ use crate::arrays::ArrayFields;
 use crate::fixed::FixedFields;
 use crate::text_columns::{TextFields, text_fields};
 use lexical_parse_integer::{Error, Options};
-use lexical_tables::codes::{AT_ONCE, NOT_READ, TEXTS, UNKNOWN, has_bits, under_format};
+use lexical_tables::codes::{AT_ONCE, NOT_READ, PARSED, TEXTS, has_bits, under_format};
 use lexical_tables::{CellText, TableColumn, put_bit};
 
 /// The status of a table that no text can be read by.
@@ -310,7 +310,7 @@ impl TableColumn for ColumnFields<'_> {
             return if self.description.has_standard_integer() {
                 AT_ONCE
             } else {
-                UNKNOWN
+                PARSED
             };
         }
         let code = self.standard_code(numbers);
@@ -319,7 +319,7 @@ impl TableColumn for ColumnFields<'_> {
         }
         let fields = &self.description.integer;
         if !fields.is_plain_decimal() {
-            return UNKNOWN;
+            return PARSED;
         }
         under_format(code, &fields.decimal_format())
     }

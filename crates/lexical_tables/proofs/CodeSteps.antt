@@ -2,6 +2,8 @@
 use Rattle.std.proofs.Common.{◌≡◌, ◌∙◌, ℕ, zero, suc, ◌<◌, ◌≤◌, Bool, false, true, not, List, [], ◌∷◌, length, get_or, Result, Option, Some, None, refl, ap, sym, subst, arith, ◌⊎◌, inl, inr}
 use Rattle.std.proofs.lemmas.List.{length-map}
 use Rattle.std.specs.Prelude.{is_some, option_map, slice_index}
+use Rattle.lexical_util.specs.Format.{Format}
+use Rattle.lexical_util.specs.Number.{IntegerType}
 use Rattle.lexical_tables.specs.Readings.{FixedPoints, Integers, Reading, Texts, Value, keeps_texts}
 use Rattle.lexical_tables.specs.ByColumn.{kind_of, kinds_of, put_read_at, put_row}
 use Rattle.lexical_tables.specs.Amounts.{AreAmounts, AreAmountsIfFixed, HasAmounts, HasAmountsIfFixed, IsAmountsIn}
@@ -65,6 +67,7 @@ asked_code dialect code target is read = record {
     unread = λ one. absurd (omega (arith, one));
     texts = λ two. absurd (omega (arith, two));
     numbers = λ three. has_read code target (is.read read);
+    parsed = λ five. absurd (omega (arith, five));
     read = λ more. absurd (omega (arith, more));
   };
   no_number = λ more. absurd (omega (arith, more));
@@ -80,6 +83,26 @@ low_code dialect code target is low = record {
   amounts = λ four. absurd (omega (arith, low, four));
 }
 
+-- so does that of numbers that are parsed
+pub parsed_code : (dialect : Dialect) (code : ℕ) (target : Option TargetView) → IsCode code target → code ≡ 5
+    → IsCodeIn dialect code target
+parsed_code dialect code target is five = record {
+  column = is;
+  no_number = λ more. absurd (omega (arith, five, more));
+  amounts = λ four. absurd (omega (arith, five, four));
+}
+
+-- integers under any format may be parsed
+pub parsed_integers : (target : TargetView) (format : Format) (type : IntegerType) → target.reading ≡ Integers format type
+    → IsCode 5 (Some target)
+parsed_integers target format type integers = record {
+  unread = λ one. absurd (omega (arith, one));
+  texts = λ two. absurd (omega (arith, two));
+  numbers = λ three. absurd (omega (arith, three));
+  parsed = λ five. ap (λ reading. not (keeps_texts reading)) integers;
+  read = λ more. absurd (omega (arith, more));
+}
+
 -- that nothing is known is always right
 pub none_code : (dialect : Dialect) (target : Option TargetView) → IsCodeIn dialect 0 target
 none_code dialect target = record {
@@ -87,6 +110,7 @@ none_code dialect target = record {
     unread = λ one. absurd (omega (arith, one));
     texts = λ two. absurd (omega (arith, two));
     numbers = λ three. absurd (omega (arith, three));
+    parsed = λ five. absurd (omega (arith, five));
     read = λ more. absurd (omega (arith, more));
   };
   no_number = λ more. absurd (omega (arith, more));
@@ -111,6 +135,7 @@ amounts_code dialect target has blanks mark = record {
     unread = λ one. absurd (omega (arith, one));
     texts = λ two. absurd (omega (arith, two));
     numbers = λ three. absurd (omega (arith, three));
+    parsed = λ five. absurd (omega (arith, five));
     read = λ more. absurd (omega (arith, more));
   };
   no_number = λ more. absurd (omega (arith, more));
@@ -181,6 +206,7 @@ same_code dialect code old new same is = record {
     unread = λ one. sym (there_is new) ∙ ap is_some same ∙ there_is old ∙ is.column.unread one;
     texts = λ two. sym (texts_are new) ∙ ap has_texts same ∙ texts_are old ∙ is.column.texts two;
     numbers = λ three. sym (numbers_are new) ∙ ap are_numbers same ∙ numbers_are old ∙ is.column.numbers three;
+    parsed = λ five. sym (numbers_are new) ∙ ap are_numbers same ∙ numbers_are old ∙ is.column.parsed five;
     read = λ some. from_kind code new (subst (IsKindAs code) (sym same) (to_kind code old (is.column.read some)));
   };
   no_number = is.no_number;
@@ -242,5 +268,6 @@ text_code target texts = record {
   unread = λ is. absurd (omega (arith, is));
   texts = λ is. texts;
   numbers = λ is. absurd (omega (arith, is));
+  parsed = λ is. absurd (omega (arith, is));
   read = λ low. absurd (omega (arith, low));
 }

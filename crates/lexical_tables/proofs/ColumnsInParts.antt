@@ -79,7 +79,7 @@ end_moved before bytes columns index row count extra =
 
 -- ---- a cell further behind
 
-abbrev answer_behind : ℕ → Result (Option Value) CellFault → Result (Option Value) CellFault
+abbrev pub answer_behind : ℕ → Result (Option Value) CellFault → Result (Option Value) CellFault
 answer_behind bytes (Ok value) = Ok (option_map (value_behind bytes) value)
 answer_behind bytes (Err fault) = Err (fault_behind bytes fault)
 
@@ -163,7 +163,7 @@ held_moved bytes d kind held valid =
     by_mark true there = refl
     by_mark false there = there
 
-cell_moved : (bytes : ℕ) (d : Dialect) (kind : Option Kind) (cell : FieldView) → AreValid (kind ∷ [])
+pub cell_moved : (bytes : ℕ) (d : Dialect) (kind : Option Kind) (cell : FieldView) → AreValid (kind ∷ [])
     → answer_as d kind (moved bytes cell) ≡ answer_behind bytes (answer_as d kind cell)
 cell_moved bytes d None cell valid =
     ap (λ found. unless found (Ok None)) (quotes_moved bytes d.has_quotes false cell)

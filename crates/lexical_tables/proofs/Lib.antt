@@ -21,6 +21,7 @@ pub mod NumbersPut
 pub mod OutsideInParts
 pub mod OutsideSteps
 pub mod Parities
+pub mod ParsedCells
 pub mod PassSteps
 pub mod Passed
 pub mod PutSteps

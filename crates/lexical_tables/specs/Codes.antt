@@ -1,7 +1,7 @@
 -- What a column says of all its cells, as a byte.
 -- 0: nothing is known, and the column is asked at each cell. 1: its cells aren't read. 2: they are texts. 3: they are
--- numbers, which the column is asked for at each cell. 4: they are amounts, which it reads as such. 8 and more: they are
--- read as decimal digits behind an optional minus are, whatever else the format allows, as numbers of u8, u16, u32, u64,
+-- numbers, which the column is asked for at each cell. 4: they are amounts, which it reads as such. 5: they are numbers,
+-- which it parses. 8 and more: they are read as decimal digits behind an optional minus are, whatever else the format allows, as numbers of u8, u16, u32, u64,
 -- i8, i16, i32 or i64 in this order. 16 is added where a number may be missing, and 32 where no zero may stand in front of
 -- another digit.
 use Rattle.std.specs.Prelude.{◌≡◌, ◌-◌, ◌*◌, ◌%◌, ◌^◌, ◌<◌, ◌≤◌, ◌⊎◌, ℕ, Bool, false, true, IsTrue, List, get_or, length, nat_le, slice_index, Option, Some, None, is_some, option_map}
@@ -58,6 +58,7 @@ pub record IsCode (code : ℕ) (target : Option TargetView) : Type 0 where
   pub unread : code ≡ 1 → is_some target ≡ false
   pub texts : code ≡ 2 → keeps_text target ≡ true
   pub numbers : code ≡ 3 → has_numbers target ≡ true
+  pub parsed : code ≡ 5 → has_numbers target ≡ true
   pub read : 8 ≤ code → IsReadAs code target
 
 -- A code is right for a column in a table: where it says how its cells are read, what stands for a missing number is none

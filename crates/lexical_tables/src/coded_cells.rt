@@ -16,7 +16,7 @@ use lexical_parse_integer::Options;
 
 // Reads the cell of a column at once, the first bytes of a text, so many, by the column's code, and tells whether it did.
 #[inline(always)]
-pub(crate) fn read_coded_cell<C: TableColumn, const HAS_QUOTES: bool, const HAS_AMOUNTS: bool>(
+pub(crate) fn read_coded_cell<C: TableColumn, const HAS_QUOTES: bool, const HAS_CALLS: bool>(
     targets: &mut [C],
     codes: &[u8; CODED],
     column: usize,
@@ -24,6 +24,7 @@ pub(crate) fn read_coded_cell<C: TableColumn, const HAS_QUOTES: bool, const HAS_
     ahead: &[u8],
     size: usize,
     dialect: &Dialect<'_>,
+    options: &Options,
 ) -> bool
     requires quotes { dialect.now.has_quotes ≡ HAS_QUOTES }
     requires codes { AreCodes dialect.now codes.now (map C.target targets.old) }
@@ -43,13 +44,14 @@ pub(crate) fn read_coded_cell<C: TableColumn, const HAS_QUOTES: bool, const HAS_
     if column >= targets.len() {
         return false;
     }
-    read_coded::<C, HAS_QUOTES, HAS_AMOUNTS>(
+    read_coded::<C, HAS_QUOTES, HAS_CALLS>(
         &mut targets[column],
         codes[column],
         row,
         ahead,
         size,
         dialect,
+        options,
     )
 }
 

@@ -33,6 +33,9 @@ pub const AT_ONCE: u8 = 3;
 // `AT_ONCE`.
 pub(crate) const AMOUNTS: u8 = 4;
 
+/// The column's cells are numbers of which `read_at_once` has none: `read_left` parses them.
+pub const PARSED: u8 = 5;
+
 /// Numbers of 8 bits without a sign.
 pub const U8: u8 = 8;
 
@@ -66,6 +69,7 @@ pub const WITH_ZERO_RULE: u8 = 32;
 /// The code of a column under a format, by what it is under the standard one, which has to be the code of a type.
 ///
 /// It is for a [`TableColumn`](crate::TableColumn) of one's own.
+#[tactic(auto, using(crate::proofs::CodeSteps::parsed_integers))]
 pub fn under_format(code: u8, format: &NumberFormat) -> u8
     requires read { 8 ≤ code }
     requires standard { code < 32 }
@@ -73,7 +77,7 @@ pub fn under_format(code: u8, format: &NumberFormat) -> u8
         → is_some target.present ≡ has_coded_bits code → IsCode result (Some target) }
 {
     if !is_separated(format, b' ') {
-        return UNKNOWN;
+        return PARSED;
     }
     if format.no_integer_leading_zeros() {
         return code + WITH_ZERO_RULE;
@@ -127,13 +131,16 @@ fn code_of_amounts<C: TableColumn>(target: &C, dialect: &Dialect<'_>, is_mark_nu
 
 // A column's code in a table: where the mark may be a number too, its numbers are asked for.
 #[inline(always)]
-#[tactic(auto, using(crate::proofs::CodeSteps::asked_code, crate::proofs::CodeSteps::low_code, crate::proofs::CodeSteps::none_code, crate::proofs::CodeSteps::type_code))]
+#[tactic(auto, using(crate::proofs::CodeSteps::asked_code, crate::proofs::CodeSteps::low_code, crate::proofs::CodeSteps::none_code, crate::proofs::CodeSteps::parsed_code, crate::proofs::CodeSteps::type_code))]
 fn code_in<C: TableColumn>(target: &C, dialect: &Dialect<'_>, is_mark_number: bool) -> u8
     requires mark { is_mark_number ≡ ends_in_digit dialect.now.missing.now }
     ensures { IsCodeIn dialect.now result (C.target target.now) }
 {
     let code = target.code();
     if code < AT_ONCE {
+        return code;
+    }
+    if code == PARSED {
         return code;
     }
     if code == AT_ONCE {
@@ -150,7 +157,7 @@ fn code_in<C: TableColumn>(target: &C, dialect: &Dialect<'_>, is_mark_number: bo
     code
 }
 
-// Asks each column that may have a code for it, and tells whether one has amounts.
+// Asks each column that may have a code for it, and tells whether the numbers of one are read by a call.
 #[inline(never)]
 pub(crate) fn put_codes<C: TableColumn>(
     dialect: &Dialect<'_>,
@@ -161,13 +168,13 @@ pub(crate) fn put_codes<C: TableColumn>(
 {
     let is_mark_number = ends_in_digit(dialect.missing);
     let count = targets.len().min(CODED);
-    let mut has_amounts = false;
+    let mut has_calls = false;
     for column in 0..count {
         let code = code_in(&targets[column], dialect, is_mark_number);
         codes[column] = code;
-        if code == AMOUNTS {
-            has_amounts = true;
+        if code == AMOUNTS || code == PARSED {
+            has_calls = true;
         }
     }
-    has_amounts
+    has_calls
 }

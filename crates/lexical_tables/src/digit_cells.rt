@@ -8,11 +8,13 @@ ghost use Rattle.lexical_tables.specs.ByColumn.{IsUsable, fault_in, kind_of, put
 ghost use Rattle.lexical_tables.specs.Cells.{answer_as, quote_fault};
 ghost use Rattle.lexical_tables.specs.Codes.{AreQuotesRound, IsCodeIn, IsDecimal, IsNumberPut, IsNumeralUnder, IsReadAs, has_zero_rule};
 
-use crate::codes::{AMOUNTS, NOT_READ, U8, WITH_ZERO_RULE};
+use crate::codes::{AMOUNTS, NOT_READ, PARSED, U8, WITH_ZERO_RULE};
 use crate::dialect::Dialect;
+use crate::known_cells::read_parsed_cell;
 use crate::quotes::shows_no_quote;
 use crate::targets::TableColumn;
 use lexical_fields::{long_number_of_front, number_of_front};
+use lexical_parse_integer::Options;
 
 // What stands in a cell of so many bytes behind its quotes, where these have a meaning and the cell begins and ends with one,
 // and how many bytes of that the cell holds: else all of the cell.
@@ -124,15 +126,16 @@ fn read_amount<C: TableColumn, const HAS_QUOTES: bool>(
 }
 
 // Reads a cell at once, the first bytes of a text, so many, where its column isn't read, or it is digits alone, behind a minus
-// or within quotes, or an amount where a table has some, and tells whether it did.
+// or within quotes, or by a call an amount or a number of another format, where a table has such columns, and tells whether it did.
 #[inline(always)]
-pub(crate) fn read_coded<C: TableColumn, const HAS_QUOTES: bool, const HAS_AMOUNTS: bool>(
+pub(crate) fn read_coded<C: TableColumn, const HAS_QUOTES: bool, const HAS_CALLS: bool>(
     target: &mut C,
     code: u8,
     row: usize,
     ahead: &[u8],
     size: usize,
     dialect: &Dialect<'_>,
+    options: &Options,
 ) -> bool
     requires quotes { dialect.now.has_quotes ≡ HAS_QUOTES }
     requires code { IsCodeIn dialect.now code (C.target target.old) }
@@ -147,8 +150,11 @@ pub(crate) fn read_coded<C: TableColumn, const HAS_QUOTES: bool, const HAS_AMOUN
     ensures kept { result ≡ false → C.target target.new ≡ C.target target.old }
 {
     if code < U8 {
-        if HAS_AMOUNTS && code == AMOUNTS {
+        if HAS_CALLS && code == AMOUNTS {
             return read_amount::<C, HAS_QUOTES>(target, row, ahead, size, dialect);
+        }
+        if HAS_CALLS && code == PARSED {
+            return read_parsed_cell(target, row, ahead, size, dialect, options);
         }
         return code == NOT_READ && shows_no_fault(ahead, size, HAS_QUOTES);
     }

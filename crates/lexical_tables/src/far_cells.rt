@@ -122,7 +122,7 @@ fn read_next_cell<'a, C: TableColumn>(
 // What is left of a text behind its first row, whose cells behind so many columns are read, one by one where they aren't had at
 // once.
 #[inline(always)]
-pub(crate) fn read_row_on<'a, C: TableColumn, const HAS_QUOTES: bool, const HAS_AMOUNTS: bool>(
+pub(crate) fn read_row_on<'a, C: TableColumn, const HAS_QUOTES: bool, const HAS_CALLS: bool>(
     start: usize,
     text: &'a [u8],
     from: Left<'a>,
@@ -169,7 +169,7 @@ pub(crate) fn read_row_on<'a, C: TableColumn, const HAS_QUOTES: bool, const HAS_
         if next.is_done {
             return next.left;
         }
-        let read = read_cells_at_once::<C, HAS_QUOTES, HAS_AMOUNTS>(
+        let read = read_cells_at_once::<C, HAS_QUOTES, HAS_CALLS>(
             text,
             next.left,
             next.column,
@@ -178,6 +178,7 @@ pub(crate) fn read_row_on<'a, C: TableColumn, const HAS_QUOTES: bool, const HAS_
             separator,
             codes,
             dialect,
+            options,
             targets,
         );
         if read.is_done {

@@ -1,6 +1,6 @@
 //! Cells whose columns have texts, or numbers that are had at once.
 
-ghost use Rattle.std.specs.Prelude.{◌≡◌, ◌⊎◌, ◌&&◌, ◌+◌, ◌<◌, ◌≤◌, ◌^◌, IsTrue, None, false, length, option_map, take, true};
+ghost use Rattle.std.specs.Prelude.{◌≡◌, ◌⊎◌, ◌&&◌, ◌+◌, ◌<◌, ◌≤◌, ◌^◌, ℕ, IsTrue, None, false, length, option_map, take, true};
 ghost use Rattle.std.specs.Str.{bytes_eq};
 ghost use Rattle.lexical_tables.specs.ByColumn.{IsUsable, fault_in, kind_of, put_read};
 ghost use Rattle.lexical_tables.specs.Cells.{answer_as, quote_fault, view_of_cell};
@@ -13,6 +13,7 @@ use crate::content::{Cell, content, text_of};
 use crate::dialect::Dialect;
 use crate::misplaced::quote_fault;
 use crate::targets::TableColumn;
+use lexical_parse_integer::Options;
 
 // Reads a cell in its column of texts, if its quotes are in place, and tells whether they are: it holds the mark, or a text, and
 // where that stands goes to the row's place.
@@ -235,4 +236,70 @@ pub(crate) fn read_known<C: TableColumn>(
         return read_number_at_once(target, row, cell, dialect);
     }
     false
+}
+
+// Reads a cell in its column of numbers that are parsed, where its quotes are in place and it holds the mark or a number, and
+// tells whether it did.
+#[inline(always)]
+fn read_parsed<C: TableColumn>(
+    target: &mut C,
+    row: usize,
+    cell: Cell<'_>,
+    dialect: &Dialect<'_>,
+    options: &Options,
+) -> bool
+    requires usable { IsUsable (row + 1) (C.target target.old) }
+    requires numbers { has_numbers (C.target target.old) ≡ true }
+    requires front { cell.text.now ≡ take (length cell.text.now) cell.ahead.now }
+    requires fits { cell.start + length cell.text.now < 2 ^ 64 }
+    ensures fault { IsTrue result → fault_in (answer_as dialect.now
+        (option_map kind_of (C.target target.old)) (view_of_cell cell.entry)) ≡ None }
+    ensures target { IsTrue result → C.target target.new ≡ option_map (put_read row
+        (answer_as dialect.now (option_map kind_of (C.target target.old))
+        (view_of_cell cell.entry))) (C.target target.old) }
+    ensures kept { result ≡ false → C.target target.new ≡ C.target target.old }
+{
+    if quote_fault(dialect.has_quotes, true, cell).is_some() {
+        return false;
+    }
+    let held = content(cell, dialect.has_quotes, dialect.allows_blanks);
+    if target.may_miss() {
+        if held.text == dialect.missing {
+            target.put_missing(row);
+            return true;
+        }
+    }
+    target
+        .read_left(row, held.start, held.text, held.ahead, options)
+        .is_none()
+}
+
+// Reads a cell as `read_parsed` does, the first bytes of a text, so many. Its place is of no account: only a fault would tell it.
+// Out of line, to keep registers for the loop.
+#[inline(never)]
+pub(crate) fn read_parsed_cell<C: TableColumn>(
+    target: &mut C,
+    row: usize,
+    ahead: &[u8],
+    size: usize,
+    dialect: &Dialect<'_>,
+    options: &Options,
+) -> bool
+    requires usable { IsUsable (row + 1) (C.target target.old) }
+    requires numbers { has_numbers (C.target target.old) ≡ true }
+    requires room { size + 17 ≤ length ahead.now }
+    ensures fault { IsTrue result → (start : ℕ) → fault_in (answer_as dialect.now
+        (option_map kind_of (C.target target.old))
+        (record { start = start; text = take size ahead.now })) ≡ None }
+    ensures target { IsTrue result → (start : ℕ) → C.target target.new ≡ option_map (put_read row
+        (answer_as dialect.now (option_map kind_of (C.target target.old))
+        (record { start = start; text = take size ahead.now }))) (C.target target.old) }
+    ensures kept { result ≡ false → C.target target.new ≡ C.target target.old }
+{
+    let cell = Cell {
+        start: 0,
+        text: &ahead[..size],
+        ahead,
+    };
+    read_parsed(target, row, cell, dialect, options)
 }

@@ -16,7 +16,7 @@ use lexical_parse_integer::Options;
 
 // `read_columns` of a text with marks, by the columns' codes.
 #[inline(always)]
-fn read_coded_rows<C: TableColumn, const HAS_QUOTES: bool, const HAS_AMOUNTS: bool>(
+fn read_coded_rows<C: TableColumn, const HAS_QUOTES: bool, const HAS_CALLS: bool>(
     text: &[u8],
     separator: u8,
     codes: &[u8; CODED],
@@ -40,7 +40,7 @@ fn read_coded_rows<C: TableColumn, const HAS_QUOTES: bool, const HAS_AMOUNTS: bo
     let mut count = 0;
     let mut wrong = None;
     while count < rows && !left.text.is_empty() {
-        let behind = read_marked_row::<C, HAS_QUOTES, HAS_AMOUNTS, false>(
+        let behind = read_marked_row::<C, HAS_QUOTES, HAS_CALLS, false>(
             text.len(),
             left,
             count,
@@ -66,10 +66,10 @@ fn read_coded_rows<C: TableColumn, const HAS_QUOTES: bool, const HAS_AMOUNTS: bo
     })
 }
 
-// `read_coded_rows` of a table with amounts, which it reads in its loop. Out of line, so that tables without any have a loop
-// of their own, in which nothing stands for amounts.
+// `read_coded_rows` of a table with amounts, or with numbers of other formats, which calls read in its loop. Out of line, so that
+// other tables have a loop of their own, without a call.
 #[inline(never)]
-fn read_amount_rows<C: TableColumn, const HAS_QUOTES: bool>(
+fn read_called_rows<C: TableColumn, const HAS_QUOTES: bool>(
     text: &[u8],
     separator: u8,
     codes: &[u8; CODED],
@@ -112,7 +112,7 @@ pub(crate) fn read_rows<C: TableColumn, const HAS_QUOTES: bool>(
 {
     let mut codes = [UNKNOWN; CODED];
     if put_codes(dialect, targets, &mut codes) {
-        return read_amount_rows::<C, HAS_QUOTES>(
+        return read_called_rows::<C, HAS_QUOTES>(
             text, separator, &codes, dialect, options, rows, targets,
         );
     }

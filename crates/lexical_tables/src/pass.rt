@@ -41,13 +41,14 @@ pub(crate) fn marked_separator(text: &[u8], dialect: &Dialect<'_>) -> Option<u8>
 }
 
 // Reads cells of a row at once, by the codes of their columns, from what is left of it on, as long as marks find them and they are
-// had, up to the row's end, if nothing is wrong there. No call stands in the loop, so that all it needs stays in registers.
+// had, up to the row's end, if nothing is wrong there. Without `HAS_CALLS` no call stands in the loop, so that all it needs
+// stays in registers.
 #[inline(always)]
 pub(crate) fn read_cells_at_once<
     'a,
     C: TableColumn,
     const HAS_QUOTES: bool,
-    const HAS_AMOUNTS: bool,
+    const HAS_CALLS: bool,
 >(
     text: &[u8],
     from: Left<'a>,
@@ -57,6 +58,7 @@ pub(crate) fn read_cells_at_once<
     separator: u8,
     codes: &[u8; CODED],
     dialect: &Dialect<'_>,
+    options: &Options,
     targets: &mut [C],
 ) -> ReadOn<'a>
     requires quotes { dialect.now.has_quotes ≡ HAS_QUOTES }
@@ -102,8 +104,8 @@ pub(crate) fn read_cells_at_once<
         if ends_wrong(left.text, part, count, columns, dialect) {
             return not_done(left, column);
         }
-        if !read_coded_cell::<C, HAS_QUOTES, HAS_AMOUNTS>(
-            targets, codes, column, index, left.text, part.size, dialect,
+        if !read_coded_cell::<C, HAS_QUOTES, HAS_CALLS>(
+            targets, codes, column, index, left.text, part.size, dialect, options,
         ) {
             return not_done(left, column);
         }
@@ -131,7 +133,7 @@ pub(crate) fn read_marked_row<
     'a,
     C: TableColumn,
     const HAS_QUOTES: bool,
-    const HAS_AMOUNTS: bool,
+    const HAS_CALLS: bool,
     const SKIPS: bool,
 >(
     end: usize,
@@ -167,8 +169,8 @@ pub(crate) fn read_marked_row<
     ensures marks { AreEnds dialect.now.has_quotes separator result.left.text.now
         result.left.marks }
 {
-    let read = read_cells_at_once::<C, HAS_QUOTES, HAS_AMOUNTS>(
-        text.text, text, 0, index, columns, separator, codes, dialect, targets,
+    let read = read_cells_at_once::<C, HAS_QUOTES, HAS_CALLS>(
+        text.text, text, 0, index, columns, separator, codes, dialect, options, targets,
     );
     if read.is_done {
         return Behind {
@@ -176,7 +178,7 @@ pub(crate) fn read_marked_row<
             is_right: true,
         };
     }
-    let left = read_row_on::<C, HAS_QUOTES, HAS_AMOUNTS>(
+    let left = read_row_on::<C, HAS_QUOTES, HAS_CALLS>(
         end - text.text.len(),
         text.text,
         read.left,
@@ -199,7 +201,7 @@ pub(crate) fn read_marked_row<
 // The numbers of the first row of a text go to its place in the targets, up to the row's fault, which is told: what is left of
 // the text behind it, where nothing is wrong.
 #[inline(always)]
-pub(crate) fn read_row<'a, C: TableColumn, const HAS_QUOTES: bool, const HAS_AMOUNTS: bool>(
+pub(crate) fn read_row<'a, C: TableColumn, const HAS_QUOTES: bool, const HAS_CALLS: bool>(
     start: usize,
     text: Left<'a>,
     index: usize,
@@ -231,7 +233,7 @@ pub(crate) fn read_row<'a, C: TableColumn, const HAS_QUOTES: bool, const HAS_AMO
     ensures marks { AreEndsIf marked dialect.now.has_quotes result.text.now result.marks }
 {
     if let Some(separator) = marked {
-        let behind = read_marked_row::<C, HAS_QUOTES, HAS_AMOUNTS, true>(
+        let behind = read_marked_row::<C, HAS_QUOTES, HAS_CALLS, true>(
             start + text.text.len(),
             text,
             index,

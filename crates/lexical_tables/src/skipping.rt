@@ -44,7 +44,7 @@ fn bad_row(error: TableError, bad_count: usize, start: usize, stop: usize) -> Ba
 // The numbers of the first row of a text go to its place in the targets, up to the row's fault: what is left of the text
 // behind it, or the fault.
 #[inline(always)]
-fn read_row<'a, C: TableColumn, const HAS_QUOTES: bool, const HAS_AMOUNTS: bool>(
+fn read_row<'a, C: TableColumn, const HAS_QUOTES: bool, const HAS_CALLS: bool>(
     start: usize,
     text: Left<'a>,
     index: usize,
@@ -75,7 +75,7 @@ fn read_row<'a, C: TableColumn, const HAS_QUOTES: bool, const HAS_AMOUNTS: bool>
         AreEndsIf marked dialect.now.has_quotes left.text.now left.marks) }
 {
     let mut wrong = None;
-    let left = pass::read_row::<C, HAS_QUOTES, HAS_AMOUNTS>(
+    let left = pass::read_row::<C, HAS_QUOTES, HAS_CALLS>(
         start, text, index, columns, marked, codes, dialect, options, targets, &mut wrong,
     );
     match wrong {
@@ -119,7 +119,7 @@ fn pass_bad_row<'a, B: KeptRow>(
 
 // `read_columns_skipping`, by the columns' codes.
 #[inline(always)]
-fn skip_coded_rows<C: TableColumn, B: KeptRow, const HAS_QUOTES: bool, const HAS_AMOUNTS: bool>(
+fn skip_coded_rows<C: TableColumn, B: KeptRow, const HAS_QUOTES: bool, const HAS_CALLS: bool>(
     text: &[u8],
     marked: Option<u8>,
     codes: &[u8; CODED],
@@ -149,7 +149,7 @@ fn skip_coded_rows<C: TableColumn, B: KeptRow, const HAS_QUOTES: bool, const HAS
     let mut bad_count = 0;
     while count < rows && !left.text.is_empty() {
         let start = text.len() - left.text.len();
-        match read_row::<C, HAS_QUOTES, HAS_AMOUNTS>(
+        match read_row::<C, HAS_QUOTES, HAS_CALLS>(
             start, left, count, columns, marked, codes, dialect, options, targets,
         ) {
             Ok(behind) => {

@@ -1,6 +1,6 @@
-use Rattle.std.proofs.Common.{Ok, ap, sym, map, ◌∙◌, ◌≡◌}
+use Rattle.std.proofs.Common.{Ok, ap, sym, map, ◌∙◌}
 use Rattle.std.proofs.lemmas.List.{map-set}
-use Rattle.lexical_util.specs.Format.{Format, standard}
+use Rattle.lexical_util.specs.Format.{Format}
 use Rattle.lexical_fields.specs.Fields.{FieldView}
 use Rattle.lexical_fields.specs.ReadFields.{field_answer}
 use Rattle.lexical_fields.proofs.FieldAnswers.{answered}

@@ -1,4 +1,4 @@
-use Rattle.std.proofs.Common.{◌+◌, ◌∙◌, refl, sym}
+use Rattle.std.proofs.Common.{◌+◌, ◌∙◌, sym}
 use Rattle.lexical_fields.specs.Fields.{FieldView}
 use Rattle.jadvolni.specs.Tables.{target_of}
 use Rattle.jadvolni.proofs.TableBits.{no_fault, number_failed, number_read, number_usable, whole_put}
