@@ -1,13 +1,13 @@
 -- The values of blocks of hexadecimal digits: their scale is the square of a root, and all that they make fits the type.
-use Rattle.std.proofs.Common.{◌≡◌, ℕ, ◌+◌, ◌-◌, ◌*◌, ◌^◌, ◌%◌, ◌<◌, ◌≤◌, List, length, sym, ap, ◌∙◌, arith}
-use Rattle.std.specs.Prelude.{ℤ, ◌+ℤ◌, ◌*ℤ◌, pos}
+use Rattle.std.proofs.Common.{◌≡◌, ℕ, ◌+◌, ◌-◌, ◌*◌, ◌^◌, ◌%◌, ◌<◌, ◌≤◌, Bool, List, length, Option, Some, None, sym, ap, ◌∙◌, arith}
+use Rattle.std.specs.Prelude.{IfSome, ℤ, ◌+ℤ◌, ◌*ℤ◌, pos}
 use Rattle.std.proofs.Math.Nat.{mul-le-mul_left, one-le-pow, pow-le-pow_right}
 use Rattle.std.proofs.lemmas.Bool.{ltb-true}
 use Rattle.std.proofs.lemmas.Nat.{pow-add}
 use Rattle.lexical_util.specs.Compare.{pos-injective}
-use Rattle.lexical_util.specs.Number.{HasRoom, IntegerType, number_limit}
-use Rattle.lexical_digits.specs.Value.{positional_value}
-use Rattle.lexical_digits.specs.WrittenNumbers.{WritesFront}
+use Rattle.lexical_util.specs.Number.{HasRoom, IntegerType, IsNumber, number_limit}
+use Rattle.lexical_digits.specs.Value.{positional_value, with_sign}
+use Rattle.lexical_digits.specs.WrittenNumbers.{StandsFor, WritesFront}
 use Rattle.lexical_digits.proofs.LongNumbers.{parts_worth}
 use Rattle.lexical_digits.proofs.NibbleBlocks.{shift_is}
 
@@ -58,3 +58,22 @@ pub high_below : (high low scale limit : ℕ) → 1 ≤ scale → high * scale +
 high_below high low scale limit some small =
     let more : high * 1 ≤ high * scale = mul-le-mul_left high some in
     omega arith
+
+-- ---- up to four digits
+
+few_is : (high low size : ℕ) (text : List ℕ) → length text ≤ 4 → WritesFront 16 text (length text) (pos (high * 16 ^ size + low)) → high * 2 ^ (4 * size) % 4294967296 + low ≡ high * 16 ^ size + low
+few_is high low size text few w =
+    let most : 16 ^ length text ≤ 16 ^ 4 = pow-le-pow_right {n = 16} (omega arith) few in
+    let below = whole_below (high * 16 ^ size + low) text 65536 w most in
+    rw (shift_is size) (omega arith)
+
+-- the number of two blocks of few digits, where a type has it
+pub few_written : {X : Type 0} (number : X → ℤ) (t : IntegerType) (is_negative : Bool) (text : List ℕ) (high low size : ℕ) (found : Option X) → length text ≤ 4 → WritesFront 16 text (length text) (pos (high * 16 ^ size + low)) →
+    IfSome found (λ x. number x ≡ with_sign is_negative (high * 2 ^ (4 * size) % 4294967296 + low)) → IfSome found (λ x. IsNumber t (number x)) → IfSome found (λ x. StandsFor t 16 is_negative text (number x))
+few_written number t is_negative text high low size None few w value fits = tt
+few_written number t is_negative text high low size (Some x) few w value fits = record {
+  magnitude = pos (high * 16 ^ size + low);
+  writes = w;
+  worth = value ∙ ap (with_sign is_negative) (few_is high low size text few w);
+  fits = fits;
+}

@@ -9,7 +9,7 @@ mod table;
 
 use crate::nibbles::table::VALUES;
 use crate::table::value_by_table;
-use crate::values::signed_value;
+use crate::values::{signed_value, value_to_8};
 use lexical_util::num::Integer;
 
 // No eight digits write this number, or a greater one.
@@ -80,6 +80,23 @@ fn value_of_blocks<T: Integer>(digits: &[u8], size: usize, is_negative: bool) ->
     }
 }
 
+// The value of two or four digits, where a signed type of so few bits has it: it lacks half of their numbers.
+#[inline(always)]
+fn value_of_few<T: Integer>(digits: &[u8], is_negative: bool) -> Option<T>
+    requires few { length digits.now ≤ 4 }
+    requires minus { IsTrue is_negative → IsTrue T.TYPE.is_signed }
+    ensures { IfSome result (λ value. StandsFor T.TYPE 16 is_negative digits.now (T.number value)) }
+{
+    let size = (T::BITS / 8) as usize;
+    if !T::IS_SIGNED || digits.len() != 2 * size {
+        return None;
+    }
+    match numbers_of_blocks(digits, size) {
+        Some((high, low)) => value_to_8::<T>((high << (4 * size) as u32) + low, is_negative),
+        None => None,
+    }
+}
+
 // The value of up to four digits.
 #[inline(always)]
 fn value_to_four<T: Integer>(digits: &[u8], is_negative: bool) -> Option<T>
@@ -90,7 +107,7 @@ fn value_to_four<T: Integer>(digits: &[u8], is_negative: bool) -> Option<T>
 {
     let n = digits.len();
     if n > T::overflow_digits(16) {
-        return None;
+        return value_of_few::<T>(digits, is_negative);
     }
     if n <= 2 {
         return value_of_blocks::<T>(digits, 1, is_negative);

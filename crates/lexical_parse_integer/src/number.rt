@@ -31,14 +31,35 @@ fn has_digit_behind(bytes: &[u8], format: &NumberFormat, head: Head) -> bool
 }
 
 // Whether the numeral of the text has a digit.
-#[inline(never)]
-fn has_digit<T: Integer>(bytes: &[u8], format: &NumberFormat) -> bool
+#[inline(always)]
+fn has_digit_in<T: Integer>(bytes: &[u8], format: &NumberFormat) -> bool
     requires valid { IsNone (fault format.now) }
     ensures { result ≡ has_digit format.now T.TYPE bytes.now }
 {
     match head_of::<T>(bytes, format) {
         Ok(head) => has_digit_behind(bytes, format, head),
         Err(_) => false,
+    }
+}
+
+// The same under a format with a separator: out of line, since few have one, and a look behind separators needs a stack.
+#[inline(never)]
+fn has_digit_among<T: Integer>(bytes: &[u8], format: &NumberFormat) -> bool
+    requires valid { IsNone (fault format.now) }
+    ensures { result ≡ has_digit format.now T.TYPE bytes.now }
+{
+    has_digit_in::<T>(bytes, format)
+}
+
+// The same under any format.
+#[inline(never)]
+fn has_digit<T: Integer>(bytes: &[u8], format: &NumberFormat) -> bool
+    requires valid { IsNone (fault format.now) }
+    ensures { result ≡ has_digit format.now T.TYPE bytes.now }
+{
+    match format.digit_separator() {
+        Some(_) => has_digit_among::<T>(bytes, format),
+        None => has_digit_in::<T>(bytes, format),
     }
 }
 

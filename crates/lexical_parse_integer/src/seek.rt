@@ -1,6 +1,6 @@
 // Where the next digit stands. These functions take plain values, so that the compiler can keep a cursor in
 // registers.
-ghost use Rattle.std.specs.Prelude.{◌≡◌, ◌≤◌, ◌<◌, None, length, true};
+ghost use Rattle.std.specs.Prelude.{◌≡◌, ◌≤◌, ◌<◌, IfSome, IsNone, None, false, length, true};
 ghost use Rattle.lexical_util.specs.Digit.{IsRadix};
 ghost use Rattle.lexical_parse_integer.specs.Runs.{admits_leading, digit_at, end_of, flag_for, run_passes, run_stop, separator_at};
 ghost use Rattle.lexical_parse_integer.specs.Seeking.{Finds, IsAtRunStart, IsSeparatorNoDigit, starts_behind_prefix};
@@ -99,41 +99,38 @@ fn run_passes(
         && flag_for(format, start, before, after)
 }
 
-// What stands behind the run of separators that starts at `position`. A run is looked over once: where it passes, what
-// is sought stands behind it, and else the numeral ends before it.
+// The place behind the run of separators that starts at `position`, where the run passes: else the numeral ends before it.
 //
-// Out of line, since runs are rare; the format by value, so that a caller keeps its own in registers.
+// Out of line, since runs are rare; the format by value, so that a caller keeps its own in registers. So is what it answers:
+// a `Found` goes through memory.
 #[inline(never)]
-fn seek_behind_run(
+fn behind_run(
     bytes: &[u8],
     format: NumberFormat,
     radix: u32,
     start: usize,
     position: usize,
-) -> Found
+) -> Option<usize>
     requires radix { IsRadix radix }
-    requires separator { IsSeparatorNoDigit format radix bytes.now }
     requires within { position ≤ length bytes.now }
-    requires after_start { start ≤ position }
-    requires before_end { position
-        ≤ end_of format (starts_behind_prefix start) radix bytes.now start }
-    requires at_run_start { IsAtRunStart format bytes.now start position }
     requires run { separator_at format bytes.now position ≡ true }
-    requires no_digit { digit_at radix bytes.now position ≡ None }
-    ensures { Finds format (starts_behind_prefix start) radix bytes.now start position result }
+    ensures passes { IfSome result (λ stop. (stop ≡ run_stop format bytes.now position)
+        × (run_passes format (starts_behind_prefix start) radix bytes.now start position stop
+        ≡ true)) }
+    ensures ends { IsNone result
+        → run_passes format (starts_behind_prefix start) radix bytes.now start position
+        (run_stop format bytes.now position) ≡ false }
 {
     let stop = run_stop(bytes, &format, position);
-    if !run_passes(bytes, &format, radix, start, position, stop) {
-        return Found::End(position);
-    }
-    match digit_at(bytes, radix, stop) {
-        Some(value) => Found::Digit(stop, value),
-        None => Found::End(stop),
+    if run_passes(bytes, &format, radix, start, position, stop) {
+        Some(stop)
+    } else {
+        None
     }
 }
 
 // What stands ahead where no digit stands at `position`: without a separator there it is the numeral's end. A run is looked
-// over by another call, which few texts make.
+// over by another call, which few texts make, and once: where it passes, what is sought stands behind it.
 #[inline(always)]
 fn seek_behind_separator(
     bytes: &[u8],
@@ -155,7 +152,13 @@ fn seek_behind_separator(
     if !separator_at(bytes, format, position) {
         return Found::End(position);
     }
-    seek_behind_run(bytes, *format, radix, start, position)
+    let Some(stop) = behind_run(bytes, *format, radix, start, position) else {
+        return Found::End(position);
+    };
+    match digit_at(bytes, radix, stop) {
+        Some(value) => Found::Digit(stop, value),
+        None => Found::End(stop),
+    }
 }
 
 // The next digit of the numeral at or after `position`, or the numeral's end.

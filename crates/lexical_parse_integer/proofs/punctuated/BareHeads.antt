@@ -1,9 +1,10 @@
 -- Where surely neither a prefix nor an octal zero stands.
-use Rattle.std.proofs.Common.{◌≡◌, ◌≢◌, ℕ, ◌+◌, ◌<◌, ◌≤◌, Bool, true, false, ◌&&◌, cond, List, length, refl, sym, ap, ◌∙◌, arith, Option, Some, None, Ok, Result}
-use Rattle.std.specs.Prelude.{IfSome, slice_get, slice_index}
+use Rattle.std.proofs.Common.{◌≡◌, ◌≢◌, ℕ, ◌+◌, ◌-◌, ◌<◌, ◌≤◌, Bool, true, false, not, ◌&&◌, ◌||◌, cond, List, length, refl, sym, ap, ◌∙◌, arith, Option, Some, None, Ok, Result}
+use Rattle.std.specs.Prelude.{◌==◌, IfSome, nat_le, slice_get, slice_index, slice_range}
 use Rattle.std.proofs.Math.Bool.{and-false}
 use Rattle.std.proofs.lemmas.Bool.{ne_eqb}
 use Rattle.std.proofs.lemmas.Bool.Decides.{nat_tests}
+use Rattle.std.proofs.lemmas.List.{length-drop}
 use Rattle.std.proofs.lemmas.Option.{slice_get-get_or, slice_get_past}
 use Rattle.lexical_util.specs.Format.{Format}
 use Rattle.lexical_util.specs.Validity.{lower_case}
@@ -11,7 +12,9 @@ use Rattle.lexical_parse_integer.specs.Affixes.{is_affix, literal_radix, matches
 use Rattle.lexical_util.specs.declared.error.Error.{Error}
 use Rattle.lexical_parse_integer.specs.declared.algorithm.front.Head as Told
 use Rattle.lexical_parse_integer.specs.Head.{Head}
+use Rattle.lexical_parse_integer.specs.Plain.{keeps_zero_rule}
 use Rattle.lexical_parse_integer.specs.Runs.{are_same}
+use Rattle.lexical_digits.proofs.WordsInFront.{rest_is}
 
 -- ---- another byte than a zero
 
@@ -101,7 +104,19 @@ behind_own_x f text k is_zero more is own radix = behind_zero f text k is_zero m
 pub behind_literal_x : (f : Format) (text : List ℕ) (k : ℕ) → slice_index text k ≡ 48 → k + 1 < length text → matches f.case_sensitive_base_prefix 120 (slice_index text (k + 1)) ≡ true → f.base_prefix ≡ None → f.literal_prefixes ≡ true → Some 16 ≡ prefix_radix f text k
 behind_literal_x f text k is_zero more is none literal = behind_zero f text k is_zero more (x_literal f _ is (none, literal))
 
+-- ---- no zero in front of another digit
+
+pub short_rule : (f : Format) (text : List ℕ) (k : ℕ) → length text - k ≡ 1 → keeps_zero_rule f (slice_range text k (length text)) ≡ true
+short_rule f text k one =
+    let size : length (slice_range text k (length text)) ≡ 1 = ap length (rest_is text k) ∙ length-drop k text ∙ one in
+    let few : (f.no_integer_leading_zeros && nat_le 2 (length (slice_range text k (length text)))) ≡ false = ap (λ (n : ℕ). f.no_integer_leading_zeros && nat_le 2 n) size ∙ and-false f.no_integer_leading_zeros in
+    ap (λ (b : Bool). not (b && (slice_index (slice_range text k (length text)) 0 == 48))) few
+
 -- ---- the head that a function answers
 
 abbrev pub told_head : Told.Head → Result Head Error
 told_head h = Ok (record { is_negative = h.is_negative; is_prefixed = h.is_prefixed; is_octal = h.is_octal; start = h.start; radix = h.radix })
+
+-- whether the digits behind it keep the rule on zeros
+abbrev pub rule_behind : Format → List ℕ → Told.Head → Bool
+rule_behind f text h = (h.is_prefixed || h.is_octal) || keeps_zero_rule f (slice_range text h.start (length text))

@@ -3,7 +3,7 @@
 //
 // As under formats without punctuation, only what is sure is answered: a value that its type has. `None` says nothing: what
 // is left is read from its front.
-ghost use Rattle.std.specs.Prelude.{◌≡◌, ◌+◌, ◌<◌, ◌||◌, IfSome, IsNone, IsTrue, None, Some, Ok, false, length, slice_index, true};
+ghost use Rattle.std.specs.Prelude.{◌≡◌, ◌+◌, ◌<◌, ◌||◌, IfSome, IsNone, IsTrue, None, Some, Ok, false, length, slice_index, slice_range, true};
 ghost use Rattle.lexical_util.specs.Ascii.{digit_zero, letter_x};
 ghost use Rattle.lexical_util.specs.Validity.{fault};
 ghost use Rattle.lexical_parse_integer.specs.Affixes.{matches, named_radix, octal_zero_at, prefix_radix};
@@ -64,7 +64,8 @@ fn is_unnamed(byte: u8, format: &NumberFormat) -> bool
     !format.literal_prefixes() && (byte <= b'F' || (byte >= b'a' && byte <= b'f'))
 }
 
-// Whether surely neither a prefix nor an octal zero stands at a place at which a zero stands.
+// Whether surely neither a prefix nor an octal zero stands at a place at which a zero stands, nor one that the format forbids
+// in front of another digit.
 #[inline(always)]
 #[tactic(auto, unfolding(crate::specs::Affixes::octal_zero_at))]
 fn is_bare(bytes: &[u8], format: &NumberFormat, start: usize) -> bool
@@ -72,11 +73,19 @@ fn is_bare(bytes: &[u8], format: &NumberFormat, start: usize) -> bool
     requires some { start < length bytes.now }
     ensures prefix { IsTrue result → None ≡ prefix_radix format.now bytes.now start }
     ensures octal { IsTrue result → false ≡ octal_zero_at format.now bytes.now start }
+    ensures rule { IsTrue result
+        → keeps_zero_rule format.now (slice_range bytes.now start (length bytes.now)) ≡ true }
 {
     if format.literal_octal_zero() {
         return false;
     }
-    bytes.len() - start == 1 || is_unnamed(bytes[start + 1], format)
+    if bytes.len() - start == 1 {
+        return true;
+    }
+    if format.no_integer_leading_zeros() {
+        return false;
+    }
+    is_unnamed(bytes[start + 1], format)
 }
 
 // The head of a text with neither a prefix nor an octal zero behind its sign.
@@ -108,7 +117,7 @@ fn keeps_rule_behind(format: &NumberFormat, head: Head, digits: &[u8]) -> bool
     head.chooses_radix() || keeps_zero_rule(format, digits)
 }
 
-// The value of the whole text, where digits of the effective radix alone stand behind its head.
+// The value of the whole text, where digits of the effective radix alone stand behind its head, and keep the zero rule.
 #[inline(always)]
 fn value_behind<T: Integer>(bytes: &[u8], format: &NumberFormat, head: Head) -> Option<T>
     requires valid { IsNone (fault format.now) }
@@ -120,16 +129,14 @@ fn value_behind<T: Integer>(bytes: &[u8], format: &NumberFormat, head: Head) -> 
       start = head.start;
       radix = head.radix;
     }) }
+    requires rule { ((head.is_prefixed || head.is_octal)
+        || keeps_zero_rule format.now (slice_range bytes.now head.start (length bytes.now)))
+        ≡ true }
     ensures { IfSome result (λ value. complete format.now T.TYPE bytes.now ≡ Ok (T.number value)) }
 {
     let digits = &bytes[head.start..];
-    if !keeps_rule_behind(format, head, digits) {
-        return None;
-    }
     match head.radix {
         10 => value_of_digits::<T>(digits, head.is_negative),
-        // Two hexadecimal digits may be more than a signed number of 8 bits: they are read from the left at once.
-        16 if T::BITS == 8 && T::IS_SIGNED && digits.len() > 1 => None,
         16 => value_of_nibbles::<T>(digits, head.is_negative),
         radix => value_by_table::<T>(digits, radix, head.is_negative),
     }
@@ -157,6 +164,9 @@ pub(super) fn value_behind_head<T: Integer>(
         || format.base_suffix().is_some()
         || bytes.len() <= head.start
     {
+        return None;
+    }
+    if !keeps_rule_behind(format, head, &bytes[head.start..]) {
         return None;
     }
     value_behind::<T>(bytes, format, head)
@@ -199,7 +209,27 @@ pub(super) fn value_of_parted<T: Integer>(
     value_of_threes::<T>(digits, format, separator, head.is_negative)
 }
 
-// The head of a text whose sign was read, where nothing but `0x` can be its prefix. `None` says nothing.
+// The value of the whole text, where hexadecimal digits alone stand behind the prefix of its head.
+#[inline(always)]
+fn value_behind_x<T: Integer>(bytes: &[u8], format: &NumberFormat, head: Head) -> Option<T>
+    requires valid { IsNone (fault format.now) }
+    requires some { head.start < length bytes.now }
+    requires head { head_of format.now T.TYPE bytes.now ≡ Ok (record {
+      is_negative = head.is_negative;
+      is_prefixed = head.is_prefixed;
+      is_octal = head.is_octal;
+      start = head.start;
+      radix = head.radix;
+    }) }
+    requires prefix { head.is_prefixed ≡ true }
+    requires radix { head.radix ≡ 16 }
+    ensures { IfSome result (λ value. complete format.now T.TYPE bytes.now ≡ Ok (T.number value)) }
+{
+    value_of_nibbles::<T>(&bytes[head.start..], head.is_negative)
+}
+
+// The head of a text whose sign was read, where nothing but `0x` can be its prefix, and no zero stands behind it that the
+// format forbids. `None` says nothing.
 #[inline(always)]
 fn head_at_once<T: Integer>(
     bytes: &[u8],
@@ -218,6 +248,10 @@ fn head_at_once<T: Integer>(
       start = head.start;
       radix = head.radix;
     })) }
+    ensures radix { IfSome result (λ head. head.is_prefixed ≡ true → head.radix ≡ 16) }
+    ensures rule { IfSome result (λ head. ((head.is_prefixed || head.is_octal)
+        || keeps_zero_rule format.now (slice_range bytes.now head.start (length bytes.now)))
+        ≡ true) }
 {
     if bytes[start] != b'0' {
         return Some(bare_head(format, is_negative, start));
@@ -266,6 +300,9 @@ pub(super) fn value_of_row<T: Integer>(bytes: &[u8], format: &NumberFormat) -> O
         return None;
     }
     let head = head_at_once::<T>(bytes, format, is_negative, start)?;
+    if head.is_prefixed {
+        return value_behind_x::<T>(bytes, format, head);
+    }
     value_behind::<T>(bytes, format, head)
 }
 
@@ -326,15 +363,15 @@ pub(super) fn value_of_groups<T: Integer>(
         return None;
     }
     let head = head_at_once::<T>(bytes, format, is_negative, start)?;
-    // Behind a prefix digits stand alone here: with a separator among the last ones they are read from the left at once.
-    if T::BITS >= 32 && head.is_prefixed && is_parted_otherwise(bytes, separator) {
-        return None;
+    if head.is_prefixed {
+        // Digits stand alone here: with a separator among the last ones they are read from the left at once.
+        if T::BITS >= 32 && is_parted_otherwise(bytes, separator) {
+            return None;
+        }
+        return value_behind_x::<T>(bytes, format, head);
     }
     if head.radix != 10 || T::BITS < 32 || !format.integer_internal_digit_separator() {
         return value_behind::<T>(bytes, format, head);
-    }
-    if !keeps_rule_behind(format, head, &bytes[head.start..]) {
-        return None;
     }
     value_of_threes::<T>(&bytes[head.start..], format, separator, head.is_negative)
 }

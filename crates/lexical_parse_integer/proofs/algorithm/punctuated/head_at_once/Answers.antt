@@ -1,5 +1,6 @@
 use Rattle.std.proofs.Common.{ap, false, refl, sym, ◌∙◌}
-use Rattle.lexical_parse_integer.proofs.punctuated.BareHeads.{no_octal_here, no_prefix_here, told_head}
+use Rattle.lexical_parse_integer.proofs.plain.DigitFaults.{nonzero_from}
+use Rattle.lexical_parse_integer.proofs.punctuated.BareHeads.{no_octal_here, no_prefix_here, rule_behind, told_head}
 use Rattle.lexical_parse_integer.proofs.punctuated.PunctuatedAnswers.{head_bare, head_named}
 use Rattle.lexical_parse_integer.proofs.algorithm.punctuated.head_at_once.Goals as goal
 
@@ -10,6 +11,11 @@ returns-then-bytes-start-ne48-clause-head g c =
     (no_octal_here c.args.format.now c.args.bytes.now c.args.start c.requires.some c.if-bytes-start-ne48.true) refl
     ∙ ap told_head (sym c.bare_head.ensures)
 
+pub returns-then-bytes-start-ne48-clause-rule : goal.returns-then-bytes-start-ne48-clause-rule
+returns-then-bytes-start-ne48-clause-rule g c =
+    ap (rule_behind c.args.format.now c.args.bytes.now) c.bare_head.ensures
+    ∙ nonzero_from c.args.format.now c.args.bytes.now c.args.start (λ asked. c.if-bytes-start-ne48.true)
+
 pub returns-then-is_behind_x-clause-head : goal.returns-then-is_behind_x-clause-head
 returns-then-is_behind_x-clause-head g c = head_named _ _ c.args.bytes.now (c.args.is_negative, c.args.start) 16 c.requires.sign (c.if-is_behind_x.ensures.prefix refl)
 
@@ -18,3 +24,7 @@ returns-then-is_bare-clause-head g c =
     head_bare _ _ c.args.bytes.now (c.args.is_negative, c.args.start) false c.args.format.now.mantissa_radix c.requires.sign
     (c.if-is_bare.ensures.prefix refl) (c.if-is_bare.ensures.octal refl) refl
     ∙ ap told_head (sym c.bare_head-then-is_bare.ensures)
+
+pub returns-then-is_bare-clause-rule : goal.returns-then-is_bare-clause-rule
+returns-then-is_bare-clause-rule g c =
+    ap (rule_behind c.args.format.now c.args.bytes.now) c.bare_head-then-is_bare.ensures ∙ c.if-is_bare.ensures.rule refl

@@ -1,4 +1,4 @@
-use Rattle.std.proofs.Common.{refl, sym, ◌∙◌}
+use Rattle.std.proofs.Common.{refl}
 use Rattle.lexical_digits.proofs.LongNumbers.{if_found}
 use Rattle.lexical_parse_integer.proofs.punctuated.PunctuatedAnswers.{digits_read, fits_head, head_signed}
 use Rattle.lexical_parse_integer.proofs.algorithm.punctuated.value_behind.Goals as goal
@@ -18,17 +18,17 @@ value_by_table-requires-clause-minus g c = head_signed _ _ c.args.bytes.now _ c.
 pub returns-in-10 : goal.returns-in-10
 returns-in-10 g c =
     if_found c.value_of_digits.result
-    (λ v stands. digits_read _ _ c.args.bytes.now _ _ 10 c.requires.valid c.requires.head c.in-10.is c.requires.some (sym c.keeps_rule_behind.ensures ∙ c.if-not-keeps_rule_behind.false) stands)
+    (λ v stands. digits_read _ _ c.args.bytes.now _ _ 10 c.requires.valid c.requires.head c.in-10.is c.requires.some c.requires.rule stands)
     c.value_of_digits.ensures
 
-pub returns-in-16-2 : goal.returns-in-16-2
-returns-in-16-2 g c =
+pub returns-in-16 : goal.returns-in-16
+returns-in-16 g c =
     if_found c.value_of_nibbles.result
-    (λ v stands. digits_read _ _ c.args.bytes.now _ _ 16 c.requires.valid c.requires.head c.in-16.is c.requires.some (sym c.keeps_rule_behind.ensures ∙ c.if-not-keeps_rule_behind.false) stands)
+    (λ v stands. digits_read _ _ c.args.bytes.now _ _ 16 c.requires.valid c.requires.head c.in-16.is c.requires.some c.requires.rule stands)
     c.value_of_nibbles.ensures
 
 pub returns-in_default : goal.returns-in_default
 returns-in_default g c =
     if_found c.value_by_table.result
-    (λ v stands. digits_read _ _ c.args.bytes.now _ _ _ c.requires.valid c.requires.head refl c.requires.some (sym c.keeps_rule_behind.ensures ∙ c.if-not-keeps_rule_behind.false) stands)
+    (λ v stands. digits_read _ _ c.args.bytes.now _ _ _ c.requires.valid c.requires.head refl c.requires.some c.requires.rule stands)
     c.value_by_table.ensures

@@ -1,4 +1,4 @@
-use Rattle.std.proofs.Common.{◌≡◌, ℕ, None, refl, subst, sym, ◌∙◌}
+use Rattle.std.proofs.Common.{◌≡◌, ℕ, None, refl, subst}
 use Rattle.std.specs.Prelude.{IsNone}
 use Rattle.lexical_util.specs.Digit.{digit}
 use Rattle.lexical_util.specs.Validity.{fault}
@@ -18,7 +18,6 @@ value_of_threes-requires-clause-minus g c = head_signed _ _ c.args.bytes.now _ c
 pub returns-clause-answer : goal.returns-clause-answer
 returns-clause-answer g c =
     let valid : IsNone (fault c.args.format.now) = valid_from _ (c.is_valid.ensures.0 c.if-not-is_valid.false) in
-    let rule = sym c.keeps_rule_behind.ensures ∙ c.if-not-keeps_rule_behind.false in
     if_both c.value_of_threes.result
-    (λ v grouped worth. groups_read _ _ c.args.bytes.now _ _ 10 valid c.in_ok-head.ensures.head c.if-head-ne10.false c.in_ok-head.ensures.more rule grouped worth)
+    (λ v grouped worth. groups_read _ _ c.args.bytes.now _ _ 10 valid c.in_ok-head.ensures.head c.if-head-ne10.false c.in_ok-head.ensures.more c.in_ok-head.ensures.rule grouped worth)
     c.value_of_threes.ensures.grouped c.value_of_threes.ensures.worth
