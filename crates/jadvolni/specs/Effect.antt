@@ -81,11 +81,11 @@ if_known fields before known =
 
 -- ---- the six calls of a type
 
--- the unsigned type of so many bits
+-- the unsigned type with this many bits
 abbrev pub unsigned : ℕ → IntegerType
 unsigned bits = integer_type bits false
 
--- the signed type of so many bits
+-- the signed type with this many bits
 abbrev pub signed : ℕ → IntegerType
 signed bits = integer_type bits true
 

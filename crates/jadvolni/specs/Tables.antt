@@ -124,7 +124,7 @@ target_status rows description (Some target) =
     if nat_lt (length target.values) rows || lacks_bits rows target.present then invalid_table
     else if keeps_texts target.reading then 0 else number_status description
 
--- the status of a column for so many rows: 0 if it can be read, or isn't meant to be
+-- the status of a column, if it is to hold this many rows: 0 if it can be read, or isn't meant to be
 abbrev pub column_status : ℕ → ColumnFields → ℕ
 column_status rows column = target_status rows column.description (target_of column)
 

@@ -180,7 +180,7 @@ impl ColumnFields<'_> {
         self.arrays.put_at_once(row, ahead, size)
     }
 
-    /// What is wrong with the column, if so many rows are asked for.
+    /// What is wrong with the column, if it is to hold this many rows.
     pub fn status(&self, rows: usize) -> u32
         ensures { result ≡ column_status rows self.now }
     {

@@ -5,7 +5,7 @@ use Rattle.lexical_util.specs.Ascii.{digit_zero}
 use Rattle.lexical_util.specs.Digit.{digit}
 use Rattle.lexical_digits.specs.Value.{positional_value}
 
--- the lowest bytes of a word, so many, the lowest first
+-- the lowest `count` bytes of a word, the lowest first
 abbrev pub word_bytes : ℕ → ℕ → List ℕ
 word_bytes zero word = []
 word_bytes (suc count) word = word % 256 ∷ word_bytes count (word / 256)

@@ -103,8 +103,8 @@ fn value_with_room<T: ParseInteger>(
     value_to_12::<T>(digits, count, is_negative)
 }
 
-/// The number of a text's first bytes, so many, where they are up to twenty decimal digits alone or behind a minus, the
-/// format has no punctuation, and seventeen bytes follow. `None` says nothing of them.
+/// The number that the first `size` bytes of a text write, if they are up to twenty decimal digits, perhaps behind a minus,
+/// the format has no punctuation, and seventeen more bytes follow. `None` says nothing about them.
 #[inline(always)]
 pub fn value_in_front<T: ParseInteger>(text: &[u8], size: usize, format: &NumberFormat) -> Option<T>
     ensures { IfSome result
@@ -192,7 +192,7 @@ pub fn long_number_of_front(text: &[u8], size: usize) -> Option<(bool, u64)>
     Some((is_negative, number))
 }
 
-/// The marks that are left, or new ones where none is.
+/// The remaining marks, or, if there is none, those of the next 64 bytes.
 #[inline(always)]
 pub fn next_marks(text: &[u8], marks: u64, separator: u8) -> u64
     requires { AreMarks separator text.now marks }

@@ -79,7 +79,7 @@ pub record IsForeign (format : Format) (byte : ℕ) : Type 0 where
 
 -- ---- tokens of two sources
 
--- a token that stands so many bytes later
+-- a token moved by `count` bytes
 abbrev pub moved : ℕ → TokenView → TokenView
 moved count token = record token { start = count + token.start; stop = count + token.stop }
 

@@ -76,7 +76,7 @@ pub fn relaxing()
         → complete strict type text ≡ Ok value → complete loose type text ≡ Ok value }
 {}
 
-/// The place of a fault is dead: no text with the same bytes up to and with it has a value, under a valid format
+/// Nothing repairs a fault: no text with the same bytes up to and including its place has a value, under a valid format
 /// without a separator byte and without the rule on leading zeros.
 ///
 /// So whoever reads byte after byte may stop there. A fault at the text's end is about no byte: `+` is `Empty(1)`, and

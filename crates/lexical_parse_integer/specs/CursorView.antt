@@ -116,7 +116,7 @@ pub record ReachesEnd (old new : CursorView) : Type 0 where
   pub none_left : HasNoDigit old.radix old.bytes old.position (numeral_end old)
   pub after : new ≡ record old { position = numeral_end old }
 
--- the next bytes, so many, are digits
+-- the next `count` bytes are digits
 abbrev pub AreDigitsAhead : CursorView → ℕ → Type 0
 AreDigitsAhead cursor count =
     (place : ℕ) → cursor.position ≤ place → place < cursor.position + count

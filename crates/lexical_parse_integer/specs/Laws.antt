@@ -115,7 +115,7 @@ IsSettledAt size place (Err (Overflow at)) = at ≡ place
 IsSettledAt size place (Err (Underflow at)) = at ≡ place
 IsSettledAt size place (Err error) = ⊥
 
--- two texts have the same first bytes, so many
+-- two texts have the same first `count` bytes
 abbrev pub SameFront : ℕ → List ℕ → List ℕ → Type 0
 SameFront count text other = take count text ≡ take count other
 
@@ -131,7 +131,7 @@ IsLocal format type =
 abbrev pub with_radix : ℕ → Format
 with_radix radix = record standard { mantissa_radix = radix }
 
--- A text of digits alone, in either letter case, that is worth a number.
+-- A text that consists of digits, in either letter case, and has this value.
 pub record Writes (radix number : ℕ) (text : List ℕ) : Type 0 where
   -- the values of its bytes: each is a digit
   pub digits : List ℕ

@@ -15,7 +15,7 @@ pub use crate::algorithm::whole::{
 use crate::api::FromLexical;
 use lexical_util::result::Result;
 
-/// The integer that the whole text stands for under the standard format, for a text that `value_if_short` has left: one
+/// The integer that the whole text stands for under the standard format, for a text on which `value_if_short` gave up: one
 /// of up to sixteen bytes isn't read as digits again.
 #[inline(always)]
 pub fn complete_standard_by_length<T: FromLexical>(bytes: &[u8]) -> Result<T>

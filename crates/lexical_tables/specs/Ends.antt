@@ -10,8 +10,8 @@ is_end has_quotes separator bytes place =
     (slice_index (seen has_quotes separator bytes) place == separator)
     || (slice_index (seen has_quotes line_feed bytes) place == line_feed)
 
--- Of the first places of some bytes, so many, those are marked by a bit where a cell ends, and no other bit is set. Sixteen
--- bytes more stand behind them.
+-- Bit k is set exactly if a cell ends at byte k, among the first bytes, which `seen` counts; all other bits are 0. Sixteen
+-- more bytes follow these.
 pub record AreEnds (has_quotes : Bool) (separator : ℕ) (bytes : List ℕ) (marks : ℕ) : Type 0 where
   pub seen : ℕ
   pub few : seen ≤ 64

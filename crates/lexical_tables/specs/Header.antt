@@ -11,7 +11,7 @@ header_length has_quotes text =
     let size = length_outside has_quotes line_feed text in
     if has_odd_quotes (take size text) then field_length line_feed text else size
 
--- what a text has behind so many lines
+-- what follows the first `count` lines of a text
 abbrev pub behind_lines : Bool → ℕ → List ℕ → List ℕ
 behind_lines has_quotes zero text = text
 behind_lines has_quotes (suc count) text =

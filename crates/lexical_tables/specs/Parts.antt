@@ -68,7 +68,7 @@ fault_in kinds dialect text =
     first_fault kinds dialect 0 (rows dialect text)
 
 -- Wherever a text is cut, what is read of the whole rows in front of the cut, and then of all that is left, is what is
--- read of the text: the rows and bytes in front are counted on.
+-- read of the text: rows and places count from the beginning of the whole text.
 pub record ColumnsInParts (kinds : List (Option Kind)) (dialect : Dialect)
     (part more : List ℕ) : Type 0 where
   pub values : let front = readable false dialect part in

@@ -44,10 +44,10 @@ fn put_near_end<T: ParseInteger>(
     }
 }
 
-/// Puts the number of a text's first bytes, so many, into a row's place of a slice, where that is had at once, and tells
-/// whether it did. Else it puts nothing, and says nothing of them.
+/// Stores the number that the first `size` bytes of a text write at the row's place of a slice, if the fast path reads it,
+/// and returns whether it did. Otherwise it changes nothing, and says nothing about them.
 ///
-/// It is had where they are up to twenty decimal digits alone or behind a minus, up to twelve in a type of at most 32 bits,
+/// It reads them if they are up to twenty decimal digits alone or behind a minus, up to twelve in a type of at most 32 bits,
 /// up to sixteen where fewer than seventeen bytes follow, the type has the number, and the format has no punctuation.
 ///
 /// It is for a [`TableColumn`](crate::TableColumn) of one's own. The format has to be valid, and the slice has to have that

@@ -95,7 +95,7 @@ fn ends_in_front(text: &[u8], separator: u8, has_quotes: bool) -> u64
     look_at_64(text, 0, separator, has_quotes, false).ends
 }
 
-// The marks that are left, or new ones where none is. The text begins at a cell's start, so outside quotes.
+// The remaining marks, or, if there is none, those of the next 64 bytes. The text begins at a cell's start, so outside quotes.
 #[inline(always)]
 pub(crate) fn next_ends(text: &[u8], marks: u64, separator: u8, has_quotes: bool) -> u64
     requires marks { AreEnds has_quotes separator text.now marks }

@@ -60,10 +60,11 @@ pub fn put_fixed<T: ParseFixed>(
     }
 }
 
-/// Puts the fixed-point number of a text's first bytes, so many, into a row's place of a slice, in units of the last place,
-/// where that is had at once, and tells whether it did. Else it puts nothing, and says nothing of them.
+/// Stores the fixed-point number that the first `size` bytes of a text write at the row's place of a slice, in units of the
+/// last place, if the fast path reads it, and returns whether it did. Otherwise it changes nothing, and says nothing about
+/// them.
 ///
-/// It is had where they are digits around a point, behind a minus or none, and few of them stand behind the point.
+/// It reads them if they are digits around a point, behind a minus or none, and few of them stand behind the point.
 ///
 /// It is for a [`TableColumn`](crate::TableColumn) of one's own. The description has to be valid, and the slice has to have
 /// that place.

@@ -34,7 +34,7 @@ fn behind_line(text: &[u8], has_quotes: bool) -> &[u8]
     }
 }
 
-/// The place behind the first lines of a text, so many, or its end where it has no more.
+/// The place behind the first `count` lines of a text, or its end if it has fewer.
 ///
 /// A table's rows begin there, if a header of so many lines stands in front of it. Of the dialect only
 /// `has_quotes` counts: then a line feed within quotes ends no line, unless they never close. What else stands

@@ -314,7 +314,7 @@ pub fn read_part_skipping<C: TableColumn, B: KeptRow>(
 
 /// The law of parts, where bad rows are skipped: wherever a text is cut, its whole rows in front of the cut, and then all
 /// that is left, give the right rows and the faults of the whole text, where each column's format is valid. Rows and
-/// places are counted on.
+/// places count from the beginning of the whole text.
 ///
 /// The call does nothing. A proof that needs the law makes it, and has its clause.
 pub fn skipping_in_parts()

@@ -193,7 +193,7 @@ pub trait TableColumn {
         false
     }
 
-    /// Does what `read` does, of a text that `read_at_once` has left: it needn't be tried at once again.
+    /// Does what `read` does, of a text on which `read_at_once` gave up: it needn't try that again.
     ///
     /// A column that doesn't write it asks `read`.
     #[inline(always)]

@@ -56,8 +56,8 @@ overflow_digits type radix =
     if nat_le radix 16 then (2 * (type.bits / 8)) - (if type.is_signed then 1 else 0)
     else type.bits / 8
 
--- every number of so many digits of the radix is one of the type, and its negative too where the type is signed:
--- the greatest of them are
+-- every number with at most this many digits of the radix is one of the type, and so is its negative if the type is
+-- signed: the greatest of them are
 pub record HasRoom (type : IntegerType) (radix count : ℕ) : Type 0 where
   pub greatest : IsNumber type (pos (radix ^ count - 1))
   pub least : IsTrue type.is_signed → IsNumber type (neg_ℤ (pos (radix ^ count - 1)))

@@ -94,8 +94,8 @@ pub trait Integer: Copy + Eq + Ord {
         ensures { option_map number result ≡ number_if_fits TYPE
             (mul_add negative (number self) (number scale) (number add)) };
 
-    /// How many digits of the radix may be joined by `mul_add` with no test, since no numeral of so
-    /// many digits leaves the type, with a minus neither where the type is signed.
+    /// How many digits `mul_add` can join without a test: no numeral of that length leaves the
+    /// type, not even with a minus if the type is signed.
     ///
     /// The radix has to be from 2 to 36. Up to 16 it is two digits a byte, less one where the type
     /// is signed, and above 16 one digit a byte: `u8` has 2 for 16 and 1 for 17, `i8` has 1 for

@@ -195,7 +195,7 @@ fn punctuated_answer<T: Integer>(bytes: &[u8], format: &NumberFormat) -> Result<
     complete_punctuated::<T>(bytes, format)
 }
 
-// The complete answer under a decimal format without punctuation, for a text that `value_if_short` has left: a short one is
+// The complete answer under a decimal format without punctuation, for a text on which `value_if_short` gave up: a short one is
 // mostly at fault then, and of a long one the value is had in registers.
 #[inline(always)]
 fn decimal_rest<T: Integer>(bytes: &[u8], format: &NumberFormat) -> Result<T>
@@ -285,7 +285,7 @@ fn separated_rest<T: Integer>(bytes: &[u8], format: &NumberFormat, separator: u8
     }
 }
 
-/// The integer that the whole text stands for under a valid format, for a text that `value_if_short` has left: it isn't read
+/// The integer that the whole text stands for under a valid format, for a text on which `value_if_short` gave up: it isn't read
 /// as short decimal digits again. The readers of values stand in the caller's place, as a loop over texts wants.
 #[inline(always)]
 pub fn complete_valid<T: Integer>(bytes: &[u8], format: &NumberFormat) -> Result<T>
@@ -370,7 +370,7 @@ fn complete_other<T: Integer>(bytes: &[u8], format: &NumberFormat) -> Result<T>
     }
 }
 
-/// The integer that the whole text stands for under a valid format, for a text that `value_if_short` has left: by one call
+/// The integer that the whole text stands for under a valid format, for a text on which `value_if_short` gave up: by one call
 /// for each kind of format, so that a number which `value_if_short` reads pays for none.
 #[inline(always)]
 pub(super) fn complete_by_kind<T: Integer>(bytes: &[u8], format: &NumberFormat) -> Result<T>
