@@ -104,6 +104,18 @@ impl FormatFields {
         first == 10 && asks_for_no_literals(self) && self.required_mantissa_sign == 0
     }
 
+    /// Whether neither a separator, a prefix nor a suffix is asked for, nor the prefixes of literals.
+    #[inline(always)]
+    pub(crate) fn has_radix_alone(&self) -> bool {
+        let first = u32::from_le_bytes([
+            self.mantissa_radix,
+            self.digit_separator,
+            self.base_prefix,
+            self.base_suffix,
+        ]);
+        first <= 0xFF && self.literal_prefixes == 0
+    }
+
     /// Whether all fields but the radix are those of the standard format.
     ///
     /// The fields are asked in their order, as four words of eight bytes.

@@ -166,8 +166,9 @@ impl ColumnFields<'_> {
             .put_cell(row, start, text, ahead, &format, options)
     }
 
-    // Puts the integer of a text into a row's place, or tells the text's fault, under any other format.
-    #[inline(always)]
+    // Puts the integer of a text into a row's place, or tells the text's fault, under any other format. Out of line: inlined, it
+    // makes the reader of other columns too large to be inlined.
+    #[inline(never)]
     fn put_by_format(&mut self, row: usize, start: usize, text: &[u8]) -> Option<Error>
         requires numbers { keeps_text (target_of self.old) ≡ false }
         requires integers { self.old.description.places ≡ 0 }
@@ -208,8 +209,10 @@ impl ColumnFields<'_> {
         if self.description.integer.is_plain_decimal() {
             return self.put_decimal(row, start, text, ahead, options);
         }
-        if self.put_in_radix(row, text) {
-            return None;
+        if self.description.integer.has_radix_alone() {
+            if self.put_in_radix(row, text) {
+                return None;
+            }
         }
         self.put_by_format(row, start, text)
     }
