@@ -71,6 +71,7 @@ CASES = [
     Case("make dist", "make dist: "),
     Case("make tag", "no dist of this commit"),
     Case("make vendor", "DEST='' is no folder"),
+    Case("make vendor DEST=.", "DEST=. is this repository"),
     Case("make vendor DEST=/proc", "/proc can't be written to"),
     Case("make vendor DEST=. WITH=nothing", "WITH has nothing, which is none of "),
     Case("make install PREFIX=usr", "PREFIX=usr: it has to begin with a slash"),
