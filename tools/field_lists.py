@@ -78,7 +78,7 @@ class Region(NamedTuple):
 
 
 def rows_of(top: str, path: str, between: str, count: int) -> list[list[str]]:
-    """The lines of a list but its comments, each in so many parts. It ends the program at others."""
+    """The lines of a list but its comments, each in `count` parts. It ends the program at others."""
     rows = []
     for number, line in enumerate(source.read(os.path.join(top, path)).splitlines(), 1):
         parts = line.split(between)
@@ -105,7 +105,7 @@ def statuses_of(top: str) -> list[Field]:
 
 
 def quoted(text: str, most: int, between: str) -> str:
-    """A text as a literal, in lines of at most so many columns."""
+    """A text as a literal, in lines of at most `most` columns."""
     return '"' + f" {between}".join(textwrap.wrap(text, most)) + '"'
 
 

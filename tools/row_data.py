@@ -23,7 +23,7 @@ BYTES = {it.word: it.name for it in fields_of(TOP) if it.kind == "punctuation"}
 HEADING = re.compile(r"(={2,3}) (\w+): (.+)")
 # what a line of tools/languages.txt tells a user, before the rows of its language
 TOLD = re.compile(r"(reference|rule|suffixes|more|less|otherwise) \| (.+)")
-# So many texts of a language are read at least, and so many refused.
+# The fewest texts of a language that are read, and that are refused.
 FEWEST = 4
 TYPES = [name.decode() for name in reference.TYPES]
 OF_TEXTS = [

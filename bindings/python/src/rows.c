@@ -7,7 +7,7 @@
 
 size_t count_of(const char *text, size_t len, char byte)
 {
-    enum { AT_ONCE = 240 }; /* so many are counted in a byte, and sixteen at once */
+    enum { AT_ONCE = 240 }; /* a byte counts up to this many, in sixteen lanes */
     size_t found = 0;
     for (; len >= AT_ONCE; text += AT_ONCE, len -= AT_ONCE) {
         uint8_t part = 0;
@@ -101,7 +101,7 @@ PyObject *line_column(PyObject *module, PyObject *const *args, Py_ssize_t count,
     return Py_BuildValue("(nn)", (Py_ssize_t)position.line, (Py_ssize_t)position.column);
 }
 
-/* How many rows a text has at most: its lines, or its records of so many bytes. */
+/* How many rows a text has at most: its lines, or its records of this size. */
 static size_t rows_in(const borrowed_text *text, size_t record)
 {
     return record ? text->len / record + (text->len % record > 0)
@@ -138,7 +138,7 @@ size_t row_end(const char *text, size_t len, size_t quotes, int has_quotes)
     return 0;
 }
 
-/* Where the last row ends of a text that has so many quotes with what stands before; or 0. */
+/* Where the last row of a text ends, given the number of quotes up to its end; or 0. */
 static size_t last_row_end(const char *text, size_t len, size_t quotes, int has_quotes)
 {
     if (!has_quotes) {
@@ -187,7 +187,7 @@ static size_t record_end(size_t len, size_t place, size_t record)
     return record < len - start ? start + record : len;
 }
 
-/* Where about so many parts of a text stop, which are of one size but that each ends with a row. */
+/* Where the parts of a text stop, about this many, of equal size except that each ends with a row. */
 static PyObject *stops_of(const borrowed_text *text, size_t count, int has_quotes, size_t record)
 {
     size_t stop = 0;
