@@ -78,6 +78,27 @@ PyObject *lines_in(PyObject *module, PyObject *args)
     return PyLong_FromSize_t(lines);
 }
 
+/* A place that a caller has: one that no text reaches is as good as any other. -1 with an exception. */
+static int place_of(PyObject *given, size_t *place)
+{
+    PyObject *number = PyNumber_Index(given);
+    if (!number) {
+        if (PyErr_ExceptionMatches(PyExc_TypeError)) {
+            PyErr_Clear();
+            raise_type("place", "an integer", given, "");
+        }
+        return -1;
+    }
+    int overflows = 0;
+    long long signed_place = PyLong_AsLongLongAndOverflow(number, &overflows);
+    int is_negative = overflows < 0 || (overflows == 0 && signed_place < 0);
+    if (is_negative)
+        PyErr_Format(PyExc_ValueError, "place has to be 0 or more, and not %S", number);
+    Py_DECREF(number);
+    *place = overflows ? SIZE_MAX : (size_t)signed_place;
+    return is_negative ? -1 : 0;
+}
+
 PyObject *line_column(PyObject *module, PyObject *const *args, Py_ssize_t count, PyObject *keywords)
 {
     (void)module;
@@ -91,8 +112,8 @@ PyObject *line_column(PyObject *module, PyObject *const *args, Py_ssize_t count,
         PyErr_SetString(PyExc_TypeError, "line_column() needs the argument 'place'");
         return NULL;
     }
-    size_t place = PyLong_AsSize_t(found[1]);
-    if (PyErr_Occurred() || borrow("text", found[0], &text) < 0)
+    size_t place;
+    if (place_of(found[1], &place) < 0 || borrow("text", found[0], &text) < 0)
         return NULL;
     Py_BEGIN_ALLOW_THREADS
     position = jadvolni_line_column(text.bytes, text.len, place);
