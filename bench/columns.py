@@ -89,7 +89,7 @@ class Text:
 
 
 def digits(random_: random.Random, count: int) -> int:
-    """A number of so many digits."""
+    """A number with that many digits."""
     return random_.randrange(10 ** (count - 1) if count > 1 else 0, 10 ** count)
 
 

@@ -91,7 +91,7 @@ def room() -> str:
 
 
 def library(room: str, sites: int) -> None:
-    """The measured library, as `libbench_calls.a`, with each call at so many places."""
+    """The measured library, as `libbench_calls.a`, with each call at `sites` places."""
     tree = os.path.join(room, "tree")
     os.makedirs(os.path.join(tree, "crates", "bench_calls", "src"), exist_ok=True)
     for crate in CRATES:
@@ -126,7 +126,7 @@ def write(path: str, text: str) -> None:
 
 
 def linked(at: str, kind: str, place: int, words: list[str], flags: str) -> str:
-    """The driver of a kind whose code stands so many times sixteen bytes further on."""
+    """The driver of a kind whose code is moved by a multiple of sixteen bytes."""
     write(os.path.join(at, "src", "place.rs"), BEFORE_ALL.replace("SIZE", str(16 * place)))
     run(words, at, RUSTFLAGS=flags)
     kept = os.path.join(at, f"driver-{kind}-{place}")

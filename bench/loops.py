@@ -107,7 +107,7 @@ def loop(name: str, what: str, call: str, more: str = "", before: str = "") -> s
 
 
 def source(sites: int) -> str:
-    """The text of the library, in which each call of the parsers stands at so many places: the
+    """The text of the library, in which each call of the parsers stands at several places: the
     loops at the first are measured."""
     found = [HEAD, loop("ours_none", "The loop alone.", "Ok(bytes.len() as u64)")]
     ends = ["", *(f"_{site}" for site in range(1, sites))]

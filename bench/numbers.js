@@ -14,7 +14,7 @@ function draw() {
   return state >>> 8;
 }
 
-/** A text of so many digits, of which the first is no zero. */
+/** A text of digits, of which the first is no zero. */
 function digits(count) {
   const rest = Array.from({ length: count - 1 }, () => draw() % 10);
   return [1 + (draw() % 9), ...rest].join("");

@@ -28,7 +28,7 @@ HERE = os.path.dirname(os.path.abspath(__file__))
 TOP = os.path.dirname(HERE)
 SHOWN = ("realistic", "1 to 3 digits", "19 digits")
 OURS = "lexint"
-# So many lines are counted by callgrind.
+# The number of lines that callgrind counts.
 COUNTED = 100_000
 
 Programs = dict[str, list[str]]
@@ -54,7 +54,7 @@ def processor_time(words: list[str], path: str) -> float:
 
 
 def write_lines(path: str, name: str, count: int, seed: int) -> None:
-    """So many lines of a set."""
+    """The first lines of a set."""
     random_ = random.Random(seed)
     with open(path, "w", encoding="ascii") as file:
         file.writelines(f"c u64 {SETS[name](random_)}\n" for _ in range(count))

@@ -49,7 +49,7 @@ def ratio(numbers: Numbers, name: str, peer: str) -> float | None:
 
 
 def shown(number: float | None, digits: int = 2) -> str:
-    """A number with so many digits behind the point, or nothing."""
+    """A number with that many digits after the point, or nothing."""
     return "" if number is None else f"{number:.{digits}f}"
 
 

@@ -34,7 +34,7 @@ import page
 
 
 def field(least: int, most: int, signs: tuple[int, ...] = (1,)) -> columns.Number:
-    """Numbers of so many digits, with one of these signs."""
+    """Numbers with that many digits and one of these signs."""
     return lambda random_: random_.choice(signs) * columns.digits(
         random_, random_.randint(least, most))
 

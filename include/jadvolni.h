@@ -209,7 +209,7 @@ typedef struct jadvolni_result {
 /* ---- what compilers check ---- */
 
 /* What gcc and clang warn of at compile time: an unused result, a NULL where none is allowed, and an
- * array shorter than the call is told. The text and its length come first in each call. */
+ * array shorter than the call says. The text and its length come first in each call. */
 #ifdef __has_attribute
 #if __has_attribute(nonnull) && __has_attribute(warn_unused_result)
 #define JADVOLNI_CHECKED_(...) __attribute__((warn_unused_result, nonnull(__VA_ARGS__)))

@@ -14,7 +14,7 @@ class within_result : public result<T> {
 public:
     within_result(T number, jadvolni_result answer) noexcept : result<T>(number, answer) {}
 
-    // One that is out of bounds, which have so many places behind a point.
+    // One that is out of bounds. The bounds have `places` digits after the point.
     within_result(jadvolni_status answer, std::string_view given, T min, T max, std::size_t places = 0,
                   char point = '.') noexcept
         : result<T>(T(), {static_cast<std::uint32_t>(answer), 0})
@@ -33,7 +33,7 @@ public:
     const char *message() const && = delete;
 
 private:
-    // So many bytes of a text are told, of which four may stand for one.
+    // At most this many bytes of a text are shown; four characters may stand for a byte.
     static constexpr std::size_t given_most = 40, digits_most = 40, number_most = digits_most + 5, words_most = 24;
 
     void put(char byte) noexcept { message_[size_++] = byte; }

@@ -14,6 +14,7 @@ done
 names=$(printf '%s\n' $names | sort -u | xargs)
 [ -d "${DEST:-}" ] || refuse "DEST='${DEST:-}' is no folder: say which, as in DEST=../yours"
 to=$(realpath -- "$DEST")
+[[ ! $to/crates -ef crates ]] || refuse "DEST=$DEST is this repository: say which is yours"
 for name in $names; do
     [[ ! -e $to/crates/$name && ! -L $to/crates/$name ]] ||
         diff -rqx out "crates/$name" "$to/crates/$name" &> /dev/null ||

@@ -71,13 +71,22 @@ CASES = [
     Case("make dist", "make dist: "),
     Case("make tag", "no dist of this commit"),
     Case("make vendor", "DEST='' is no folder"),
+    Case("make vendor DEST=.", "DEST=. is this repository"),
     Case("make vendor DEST=/proc", "/proc can't be written to"),
     Case("make vendor DEST=. WITH=nothing", "WITH has nothing, which is none of "),
     Case("make install PREFIX=usr", "PREFIX=usr: it has to begin with a slash"),
     # From here on the tree has a release of one file, and then a bad line.
     Case("mkdir dist; sha256sum /dev/null > dist/SHA256SUMS; packaging/test_dist.sh",
          "lacks: dist/*.deb (make dist writes them where debhelper and dh-python are)"),
-    Case("echo ======= >> bench/causes.txt; python3 tools/documents.py",
+    Case("echo 'x | flag' >> tools/fields.txt; python3 tools/documents.py",
+         "tools/fields.txt:25: not as the lines above: x | flag"),
+    Case("sed -i '/^x |/d' tools/fields.txt; echo x >> bindings/errors.txt; make -s docs",
+         "bindings/errors.txt:35: not as the lines above: x"),
+    Case("sed -i '/^x$/d' bindings/errors.txt; echo '== nowhere: No language' >> tools/languages.txt;"
+         " python3 tools/rows.py", "nowhere: fewer than 4 texts that are read, or that are refused"),
+    Case("sed -i '/^== nowhere/d' tools/languages.txt; printf '\\377' >> tools/rows.txt;"
+         " python3 tools/rows.py", "tools/rows.txt is no UTF-8"),
+    Case("sed -i '$d' tools/rows.txt; echo ======= >> bench/causes.txt; python3 tools/documents.py",
          "neither a cause nor a case of one: ======="),
     Case("echo ======= >> bench/calls.tsv; python3 tools/documents.py",
          "no call with its counts: ======="),

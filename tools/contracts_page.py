@@ -185,28 +185,43 @@ def of_crate(top: str, crate: str, named: set[Definition]) -> list[str]:
     return [f"## {crate}", "", *lines] if lines else []
 
 
+# What stands above the contracts.
+INTRODUCTION = [
+    "# Contracts", "",
+    "Each public call of each crate with its clauses, word for word as the source has them. "
+    "`make docs` writes this page.", "",
+    "A clause names definitions of `specs/`: [the list at the end](#definitions) has them, and "
+    "`rt lemma NAME`, in a crate that uses it, shows one. Those of std come with the toolchain; "
+    "the main ones are explained here. `x.now` is what `x` points to, `self.old` and `self.new` "
+    "are that at the call and at the return, `result` is the answer. [PROOFS.md](PROOFS.md) "
+    "says in words what the clauses promise together.", "",
+    "`≡` is equality, `A × B` both, `A ⊎ B` one of the two, `A → B` that B follows from A, "
+    "and `A ↔ B` that each follows from the other. `(x : A) → B` is B for every x, and "
+    "`(x : A) × B` for some x. `λ x. e` is a function, `x ∷ xs` a first item and the rest, "
+    "`xs ++ ys` one list behind another. `record { f = x; }` has x in its field f, and "
+    "`record r { f = x; }` is r but for that field.", "",
+    "std's words: `IsTrue b`, `IsNone o`, `IsSome o` and `IsErrOf r e` say which one it is. "
+    "`IfOk r P` says that P holds of the value, if `r` is `Ok`; so `IfErr` and `IfSome`. "
+    "`OnOk r A` says A, if `r` is `Ok`; so `OnErr`. `IsOkUnless r e` says that e is the only "
+    "error; `MatchOption o A P` says A, if o is `None`, and else P of its value; `All P xs` says "
+    "P of each item. "
+    "`option_map f o` applies f to the value, if there is one. `length`, `map`, `take n` and "
+    "`drop n` are those of lists, `slice_index xs i` and `slice_get xs i` the item at `i`, "
+    "`slice_range xs i j` those from `i` to before `j`, `codes \"-0\"` the bytes of a text. "
+    "`bit_at n k` is the bit k of n, `signed_decimal n` its digits with a minus if it is "
+    "negative, `pos n` n as an integer. `YieldsFirstBy` says that an iterator gives the items "
+    "of its list in order. Of an integer type `T`, `T.TYPE` is its width and sign, and "
+    "`T.number x` the number that `x` is.", "",
+    "`Appends old new xs` says that a writer has xs more than before, `Keeps old new` that it "
+    "has the same, and `IsAtEnd left` that a reader has nothing left. Where the contract of a "
+    "reader or writer doesn't state its bytes, they are `None`, and these three say nothing.",
+    "",
+]
+
+
 def page(top: str, crates: list[str]) -> str:
     """The text of docs/CONTRACTS.md."""
-    found = [
-        "# Contracts", "",
-        "Each public call of each crate with its clauses, word for word as the source has them. "
-        "`make docs` writes this page.", "",
-        "A clause names definitions of `specs/`: [the list at the end](#definitions) has them, and "
-        "`rt lemma NAME`, in a crate that uses it, shows one. std's, as `IfOk` and `length`, only "
-        "the toolchain has. `x.now` is what `x` points to, `self.old` and `self.new` are that at "
-        "the call and at the return, `result` is the answer. [PROOFS.md](PROOFS.md) says what the "
-        "clauses come to.", "",
-        "`≡` is equality, `A × B` both, `A ⊎ B` one of the two, `A → B` that B follows from A, "
-        "and `A ↔ B` that each follows from the other. `(x : A) → B` is B for every x, and "
-        "`(x : A) × B` for some x. `λ x. e` is a function, `x ∷ xs` a first item and the rest, "
-        "`xs ++ ys` one list behind another.", "",
-        "std's words: `IsTrue b`, `IsNone o` and `IsSome o` say which one it is. `IfOk r P` says "
-        "that P holds of the value, if `r` is `Ok`; so `IfErr` and `IfSome`. `OnOk r A` says A, if "
-        "`r` is `Ok`. `length`, `map`, `take n` and `drop n` are those of lists, "
-        "`slice_index xs i` and `slice_get xs i` the item at `i`. `pos n` is n as an integer. "
-        "`YieldsFirstBy` says that an iterator gives the items of its list in order. Of an integer "
-        "type `T`, `T.TYPE` is its width and sign, and `T.number x` the number that `x` is.", "",
-    ]
+    found = list(INTRODUCTION)
     named = set[Definition]()
     for crate in crates:
         found += of_crate(top, crate, named)

@@ -36,7 +36,7 @@ WAITING = b"lexint: waiting for lines; Ctrl-D on an empty line ends them\n"
 PAGE = 4096
 MEBIBYTE = 1 << 20
 SECONDS = 60
-# No run comes to so many allocations.
+# No run makes this many allocations.
 MOST_ALLOCATIONS = 100
 # fcntl names it from Python 3.10 on.
 F_SETPIPE_SZ = 1031
@@ -222,7 +222,7 @@ def refused_reads(runs: Runs) -> None:
 
 
 def full_file(runs: Runs, known: Known, size: int) -> None:
-    """A file that has room for so many bytes: the write that reaches its end is cut short, and the
+    """A file that has room for few bytes: the write that reaches its end is cut short, and the
     next one is refused."""
     with tempfile.TemporaryFile() as file:
         got = runs.run(known.given, stdout=file, before=limit(resource.RLIMIT_FSIZE, size))
@@ -267,7 +267,7 @@ def refused_memory(runs: Runs) -> None:
 
 
 def failing_allocations(runs: Runs, known: Known, least: int, library: str) -> None:
-    """Each allocation of a run fails in turn; there are at least so many. The run ends well where
+    """Each allocation of a run fails in turn; there are at least `least`. The run ends well where
     it has no allocation of that number, and so it does with the next number."""
     refused, whole = Ended(2, b"", MEMORY), Ended(0, known.wanted, b"")
     ends_well = False

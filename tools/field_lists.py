@@ -6,6 +6,7 @@ from __future__ import annotations
 
 import os
 import re
+import sys
 import textwrap
 from typing import Callable, NamedTuple
 
@@ -13,6 +14,7 @@ import source
 
 LIST = os.path.join("tools", "fields.txt")
 STATUSES = os.path.join("bindings", "errors.txt")
+KINDS = ("radix", "punctuation", "flag")
 # The fields of the standard format that aren't 0.
 STANDARD = {"mantissa_radix": 10, "required_mantissa_digits": True}
 # From which status on Rust's errors have a place (or a number), or have none.
@@ -75,16 +77,23 @@ class Region(NamedTuple):
     written: Written
 
 
-def rows_of(top: str, path: str, between: str) -> list[list[str]]:
-    """The lines of a list but its comments, each in parts."""
-    lines = source.read(os.path.join(top, path)).splitlines()
-    return [line.split(between) for line in lines if not line.startswith("#")]
+def rows_of(top: str, path: str, between: str, count: int) -> list[list[str]]:
+    """The lines of a list but its comments, each in `count` parts. It ends the program at others."""
+    rows = []
+    for number, line in enumerate(source.read(os.path.join(top, path)).splitlines(), 1):
+        parts = line.split(between)
+        if line.startswith("#"):
+            continue
+        if len(parts) != count or path == LIST and parts[1] not in KINDS:
+            sys.exit(f"{path}:{number}: not as the lines above: {line}")
+        rows.append(parts)
+    return rows
 
 
 def fields_of(top: str) -> list[Field]:
     """The fields in their order."""
     found, bit = [], 1
-    for name, kind, word, about in rows_of(top, LIST, " | "):
+    for name, kind, word, about in rows_of(top, LIST, " | ", 4):
         found.append(Field(name, kind, about, bit if kind == "punctuation" else 0, word))
         bit <<= kind == "punctuation"
     return found
@@ -92,11 +101,11 @@ def fields_of(top: str) -> list[Field]:
 
 def statuses_of(top: str) -> list[Field]:
     """The statuses in their order, each with its text."""
-    return [Field(name, "status", text) for name, text in rows_of(top, STATUSES, ": ")]
+    return [Field(name, "status", text) for name, text in rows_of(top, STATUSES, ": ", 2)]
 
 
 def quoted(text: str, most: int, between: str) -> str:
-    """A text as a literal, in lines of at most so many columns."""
+    """A text as a literal, in lines of at most `most` columns."""
     return '"' + f" {between}".join(textwrap.wrap(text, most)) + '"'
 
 

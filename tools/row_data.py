@@ -8,6 +8,7 @@ from dataclasses import dataclass, field
 from typing import List, NamedTuple, Optional, Tuple, Union
 
 import reference
+import source
 from field_lists import fields_of
 
 TOP = os.path.dirname(os.path.dirname(os.path.abspath(__file__)))
@@ -22,6 +23,8 @@ BYTES = {it.word: it.name for it in fields_of(TOP) if it.kind == "punctuation"}
 HEADING = re.compile(r"(={2,3}) (\w+): (.+)")
 # what a line of tools/languages.txt tells a user, before the rows of its language
 TOLD = re.compile(r"(reference|rule|suffixes|more|less|otherwise) \| (.+)")
+# The fewest texts of a language that are read, and that are refused.
+FEWEST = 4
 TYPES = [name.decode() for name in reference.TYPES]
 OF_TEXTS = [
     "Overflow", "Underflow", "InvalidDigit", "Empty", "MissingSign", "InvalidPositiveSign",
@@ -226,12 +229,16 @@ class Reader:
 def read_data(path: str) -> List[File]:
     """The files of tools/rows.txt or tools/languages.txt. It ends the program at a bad line."""
     reader = Reader(os.path.basename(path))
-    with open(path, encoding="utf-8") as data:
-        for number, line in enumerate(data, 1):
-            try:
-                reader.line(line.rstrip("\n"))
-            except Bad as bad:
-                sys.exit(f"tools/{reader.data}:{number}: {bad}: {line.rstrip()}")
+    for number, line in enumerate(source.read(path).split("\n"), 1):
+        try:
+            reader.line(line)
+        except Bad as bad:
+            sys.exit(f"tools/{reader.data}:{number}: {bad}: {line}")
+    for group in (group for file in reader.files for group in file.groups if path == LANGUAGES):
+        read = sum(row.answer.name == "Ok" for row in group.rows)
+        if min(read, len(group.rows) - read) < FEWEST:
+            sys.exit(f"tools/{reader.data}: {group.name}: fewer than {FEWEST} texts that are read, "
+                     "or that are refused")
     return reader.files
 
 

@@ -3,6 +3,7 @@ from __future__ import annotations
 
 import os
 import re
+import sys
 from typing import NamedTuple
 
 FUNCTION = re.compile(r"\bfn\s+([A-Za-z]\w*)")
@@ -31,8 +32,11 @@ class Function(NamedTuple):
 
 
 def read(path: str) -> str:
-    with open(path, encoding="utf-8") as file:
-        return file.read()
+    try:
+        with open(path, encoding="utf-8") as file:
+            return file.read()
+    except UnicodeDecodeError:
+        sys.exit(f"{path} is no UTF-8")
 
 
 def module_of(file: str) -> tuple[str, ...]:

@@ -40,7 +40,7 @@ struct Case {
     std::string text;
 };
 
-// Makes a call so many times, each time on another copy of its text. It stays a function of its own, at whose end
+// Makes a call several times, each time on another copy of its text. It stays a function of its own, at whose end
 // callgrind is asked for a count.
 template <class Call>
 [[gnu::noinline, gnu::noclone]] Seen take_turns(Call &call, const char *texts, std::size_t size, std::size_t turns) {
@@ -444,7 +444,7 @@ How how_in(const std::string &word) {
             it[8], it[9], it[10], it[11], it[12], it[13], it[14]};
 }
 
-// The next case: `CALL TYPE FORMAT HOW SIZE TEXT`, where the text has so many bytes, and a line feed follows.
+// The next case: `CALL TYPE FORMAT HOW SIZE TEXT`, where the text has SIZE bytes, and a line feed follows.
 bool next(std::istream &from, Case &asked) {
     std::string format, how;
     std::size_t size;

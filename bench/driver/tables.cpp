@@ -108,7 +108,7 @@ struct Export {
     }
 };
 
-// The one for columns of so many rows, which is made before any time counts.
+// The one for the columns of a table, which is made before any time counts.
 Export &export_of(const Numbers &columns) {
     static Export made(columns[0].numbers.size());
     return made;
@@ -227,7 +227,7 @@ int measure_export(const char *rounds) {
                                     rounds, 2);
 }
 
-// Reads a file by blocks in each of so many rounds. Prints what take_turns does of a reader.
+// Reads a file by blocks in each round. Prints what take_turns does of a reader.
 int measure_file(const char *rounds, const char *path) {
     static char bytes[1 << 16];
     constexpr std::size_t most = 4096;

@@ -7,7 +7,7 @@
 #include <string>
 #include <vector>
 
-// So many bytes stand before all code: where a loop stands moves its time.
+// The number of bytes before all code: a loop's alignment changes its time.
 asm(".text\n.p2align 4\n.skip " SKIPPED ", 0xcc");
 
 // What is read of a column: its numbers, and a bit for each row that says whether it has one, where some may be missing.
@@ -39,8 +39,8 @@ void clear(Columns<T> &columns) {
     }
 }
 
-// Reads standard input by all peers in each of so many rounds. Prints of each the least time, in nanoseconds a cell, and
-// the sum of the numbers. Answers 1 where two read other numbers. So many cells of a row aren't read.
+// Reads standard input by all peers in each round. Prints of each the least time, in nanoseconds a cell, and
+// the sum of the numbers. Answers 1 where two read other numbers. The first cells of a row, `unread`, aren't read.
 template <class T>
 int take_turns(std::vector<Peer<T>> peers, const char *rounds, std::size_t unread = 0) {
     std::string text{std::istreambuf_iterator<char>(std::cin), {}};

@@ -1,4 +1,4 @@
-// Amounts: fixed-point numbers, in units of the last of so many places.
+// Amounts: fixed-point numbers, in units of the last place.
 
 import { byteOf, flagOf, told } from "./arguments.js";
 import { FormatError } from "./errors.js";

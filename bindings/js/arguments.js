@@ -1,6 +1,6 @@
 // What is asked of arguments, and said of wrong ones.
 
-// So many characters of a string or a number are told.
+// At most this many characters of a string or a number are shown.
 const TOLD = 40;
 
 /** What a wrong argument is, in a message. */

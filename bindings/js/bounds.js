@@ -26,7 +26,7 @@ export function boundsOf(type, given) {
   return { min: min < least ? least : min, max: max > greatest ? greatest : max };
 }
 
-// So many bytes of a text are told.
+// At most this many bytes of a text are shown.
 const TOLD = 40;
 
 /** A byte as a message shows it, by its number where it isn't printable ASCII. */

@@ -46,7 +46,7 @@ export function cellCount(row, how) {
   return putCells(0, memory.putBytes(row), 0, oneCell);
 }
 
-/** The bytes of each of a row's cells, which are so many. */
+/** The bytes of each of a row's `count` cells. */
 export function cellsOf(row, how, count) {
   const take = putTableAlone(how);
   const cells = take(Uint32Array, WORDS_OF_CELL * count);

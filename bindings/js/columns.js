@@ -48,7 +48,7 @@ function optionsOf(separator, format) {
   throw new TypeError("parseColumn has one format: it is one of the options, or stands behind a separator");
 }
 
-/** The fault of a field in a piece that so many bytes and fields stand before. */
+/** The fault of a field in a piece, with the bytes and fields before the piece added. */
 function faultInPiece(status, place, separator, start, field) {
   const fieldPlace = Number(fieldStart(TEXT, BigInt(place), separator));
   return faultOfField(status, start + place, field, start + fieldPlace);

@@ -8,7 +8,7 @@ import { named, putBytes, TEXT } from "./memory.js";
 import { PIECE } from "./pieces.js";
 import { frontOf, quoted, quotedBytes } from "./shown.js";
 
-// So many bytes of a cell are told. As many more as a character has say how it goes on.
+// At most this many bytes of a cell are shown. A character's bytes more say how it goes on.
 const TOLD = 40;
 const LONGEST_CHARACTER = 4;
 

@@ -10,7 +10,7 @@ const QUOTE = 0x22;
 const BYTE_ORDER_MARK = [0xef, 0xbb, 0xbf];
 const decoder = new TextDecoder("utf-8", { ignoreBOM: true });
 
-// So many names are listed in a message.
+// At most this many names are listed in a message.
 const LISTED = 40;
 // What tables have between their cells.
 const SEPARATORS = [",", ";", "\t", "|"];

@@ -95,7 +95,7 @@ export function putTableAlone(how) {
 
 /**
  * Puts a table and its columns where calls find them: the arrays of each, how many rows there is room
- * for, and room to tell so many bad rows.
+ * for, and room to report `bad` bad rows.
  */
 export function putTable(how, reads, bad) {
   const rows = rowsOf(reads, how.missing, bad);
@@ -108,7 +108,7 @@ export function putTable(how, reads, bad) {
 }
 
 /**
- * Reads so many bytes of text up to the first bad row: how many rows there are, where reading stopped,
+ * Reads the first bytes of the text up to the first bad row: how many rows there are, where reading stopped,
  * and what is known of that bad row.
  */
 export function rowsBeforeFault(size, isLast, { rows, count }) {
@@ -126,7 +126,7 @@ function badRowAt(words, index) {
   return { status, row, column, place, start, stop };
 }
 
-/** The same of the right rows of so many bytes of text, and of the bad ones, as far as there is room. */
+/** The same of the right rows, and of the bad ones, as far as there is room. */
 export function rightRows(size, isLast, { rows, badRows, count }) {
   const bad = badRows.length / WORDS_OF_BAD_ROW;
   callSkipping(ANSWER, TEXT, BigInt(size), isLast, TABLE, BigInt(rows), COLUMNS, count,

@@ -181,7 +181,7 @@ export function putText(text) {
   return written;
 }
 
-/** The place of so many bytes at the end of the memory. */
+/** The place of the last `size` bytes of the memory. */
 export function placeAtEnd(size) {
   const start = Math.floor((buffer.byteLength - size) / 8) * 8;
   if (start < textPlace) throw new RangeError(`there is no memory for ${size} bytes beside a text`);

@@ -73,7 +73,7 @@ function atFault({ onError = "throw", errors }) {
   throw new TypeError(`errors has to be an array or a function, and not ${told(errors)}`);
 }
 
-/** How a table of so many columns is written, what stands for a missing number, and what is done at a fault. */
+/** How a table with these columns is written, what stands for a missing number, and what is done at a fault. */
 export function tableOf(given, count) {
   const fields = ownFields("a table", given, FIELDS);
   const flags = FLAGS.map((name) => [name, flagOf(name, fields[name])]);

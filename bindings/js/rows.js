@@ -9,10 +9,10 @@ import { joinedPlaces, placesOf, TextColumn } from "./texts.js";
 
 export const LONGEST_ROW = PIECE - 1; // and behind it the line feed
 
-// Where bad rows are told, a piece has so many bytes, and so no more bad rows.
+// The size of a piece when bad rows are reported, and so the most bad rows that it has.
 const WINDOW = 1 << 16;
 
-/** For each of so many rows 1 where there is something, and else 0. */
+/** For each row 1 where there is something, and else 0. */
 function presentOf(bits, count) {
   const present = new Uint8Array(count);
   for (let row = 0; row < count; row++) present[row] = (bits[row >> 3] >> (row & 7)) & 1;
@@ -41,7 +41,7 @@ export function longRow(bytes, start, how, which) {
   return new RangeError(`${which} has more than ${LONGEST_ROW} bytes${quote}`);
 }
 
-/** Reads a piece of so many bytes, if there are as many. The table is put anew: who was told of errors may
+/** Reads the next piece of the text, of at most this size. The table is put anew: who was told of errors may
  * have read others. */
 function readPiece(bytes, start, most, reads, how) {
   const laid = putTable(how, reads, how.tell ? WINDOW : 0);
@@ -60,7 +60,7 @@ function readNext(bytes, start, reads, how) {
   return readPiece(bytes, start, size, reads, how);
 }
 
-/** A bad row of the piece that was read last as one of the text, in which so many rows and bytes stand before it. */
+/** A bad row of the piece read last, as one of the text: the rows and bytes before the piece are added. */
 function badRowOf({ status, row, column, place, start, stop }, rows, bytes) {
   const cell = cellOfColumn(start, stop, column, bytes);
   return { status, row: rows + row, column, place: bytes + place, start: bytes + start, cell };

@@ -17,7 +17,7 @@ function escaped(character) {
 /** A text within quotes. */
 export const quoted = (text) => `"${text.replace(UNSEEN, escaped)}"`;
 
-/** The text of bytes, of which so many are told at most: a character that isn't whole in them is left out. */
+/** The text of bytes, of which at most `most` are shown: a character that isn't whole in them is left out. */
 export function frontOf(bytes, most) {
   const decoder = new TextDecoder("utf-8", { ignoreBOM: true });
   return decoder.decode(bytes.slice(0, most), { stream: bytes.length > most });
@@ -35,7 +35,7 @@ function characterOf(bytes) {
   return undefined;
 }
 
-/** Bytes within quotes, of which so many are shown at most, and by a number what is no UTF-8. */
+/** Bytes within quotes, at most `most` of them, and by a number what is no UTF-8. */
 export function quotedBytes(bytes, most) {
   const dots = bytes.length > most ? ".." : "";
   const front = frontOf(bytes, most);

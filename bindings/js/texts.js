@@ -65,7 +65,7 @@ export class TextColumn {
   }
 }
 
-/** Where texts stand that a call has left, in a piece that so many bytes stand before. */
+/** Where a call found the texts of a piece, with the bytes before the piece added. */
 export function placesOf(words, count, before) {
   const starts = new Float64Array(count);
   const sizes = new Uint32Array(count);

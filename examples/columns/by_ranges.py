@@ -26,7 +26,7 @@ class Part:
         self.file, self.left = file, stop - start
 
     def read(self, size: int) -> bytes:
-        """So many bytes at most."""
+        """At most `size` bytes."""
         block = self.file.read(min(size, self.left))
         self.left -= len(block)
         return block

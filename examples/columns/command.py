@@ -40,6 +40,8 @@ def tell(path: str, answer) -> None:
         sys.exit(f"{path}: {error.strerror}")
     except ValueError as error:
         sys.exit(f"{path}: {error}")
+    except MemoryError:
+        sys.exit(f"{path}: there is not enough memory")
     except ModuleNotFoundError as error:
         sys.exit(f"this needs {error.name}, which isn't installed")
     if said is not None:

@@ -3,7 +3,7 @@
 #include "named_sum.hpp"
 #include <array>
 
-constexpr std::size_t most = 10; // so many bad rows are told
+constexpr std::size_t most = 10; // the most bad rows that are shown
 
 static std::int64_t sum_of(const char *name)
 {

@@ -20,7 +20,7 @@ struct block {
     jadvolni::table_result answer;
 };
 
-// Reads the numbers of one of so many columns.
+// Reads the numbers of one of the columns.
 static block read_part(std::string_view part, const jadvolni::table &how, std::size_t column, std::size_t count)
 {
     std::vector<std::int64_t> numbers(static_cast<std::size_t>(std::count(part.begin(), part.end(), '\n')) + 1);

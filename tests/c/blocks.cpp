@@ -11,7 +11,7 @@
 
 using jadvolni::status;
 
-// Hands out so many bytes at once, and counts its calls. Behind the text's end it answers 0, and where it is asked
+// Hands out a few bytes at once, and counts its calls. Behind the text's end it answers 0, and where it is asked
 // for, it fails in every second call.
 struct source {
     std::string_view text;

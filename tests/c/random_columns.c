@@ -26,7 +26,7 @@ static uint64_t below(uint64_t count)
     return (state >> 11) % count;
 }
 
-/* So many bytes between two pages that nobody may touch. */
+/* Bytes between two pages that nobody may touch. */
 static char *guarded(size_t size)
 {
     char *pages = mmap(NULL, size + 2 * PAGES, PROT_NONE, MAP_PRIVATE | MAP_ANONYMOUS, -1, 0);

@@ -49,7 +49,7 @@ static void places(void)
 
 /* ---- where its cells are */
 
-/* The first row of a text has so many cells, of which the one of a column is at a place with so many bytes. */
+/* The first row of a text has `cells` cells, of which the one of a column is at a place, with a size. */
 static int has_cell(const char *text, size_t len, jadvolni_table table, size_t count, size_t column, size_t start,
                     size_t size)
 {

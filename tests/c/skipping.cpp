@@ -81,7 +81,7 @@ static told of_whole(std::string_view text, const jadvolni::table &how)
     return all;
 }
 
-// Hands out so many bytes at once, and fails now and then.
+// Hands out a fixed number of bytes at once, and fails now and then.
 struct source {
     std::string_view text;
     std::size_t step;

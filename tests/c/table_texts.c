@@ -5,7 +5,7 @@
 static int64_t wide[4];
 static uint8_t bits[1];
 
-/* What is said of a text of so many rows, read into one column. */
+/* What is said of a text with this many rows, read into one column. */
 static const char *said(const char *text, const jadvolni_table *table, size_t rows, jadvolni_table_column column)
 {
     jadvolni_table_result r = jadvolni_parse_table(text, strlen(text), true, table, rows, &column, 1);

@@ -47,7 +47,7 @@ static jadvolni::table ledger_of_lines()
 }
 
 // What a table of blocks gives: all its rows in a line each, and what is wrong at last. The reader gives
-// so many bytes at once, and fails where it has to.
+// a fixed number of bytes at once, and fails where it has to.
 struct reader {
     std::string_view text;
     std::size_t step, fails_at;

@@ -239,7 +239,7 @@ static void column_beside_std(std::mt19937_64 &random)
     CHECK(read && read.count() == 1000 && read.place() == text.size() && ours == theirs);
 }
 
-// The numbers of a text that comes in blocks of so many bytes, with room for so many at once.
+// The numbers of a text that comes in blocks of a size, with room for some at a time.
 static std::vector<int> in_blocks(std::string_view text, std::size_t size, std::size_t room)
 {
     std::vector<int> found, values(room);

@@ -103,7 +103,7 @@ test("wrong suffixes, and long texts", () => {
   refuses({ u: null }, /^type has to be one of u8, .*, and not null$/);
   assert.throws(() => parseTypedLiteral(1, {}), { name: "TypeError", message: /^text has to be/ });
   assert.throws(() => parseTypedLiteral("1", {}, { min: 1 }), { message: 'parseTypedLiteral has no option "min"' });
-  const room = LONGEST - 24; // (an entry has so many bytes)
+  const room = LONGEST - 24; // (an entry has 24 bytes)
   assert.equal(parseTypedLiteral("1".padStart(room, "0"), { "": "u8" }).value, 1);
   for (const size of [room + 1, LONGEST, LONGEST + 1]) {
     assert.throws(() => parseTypedLiteral("1".padStart(size, "0"), { "": "u8" }), { name: "RangeError", message: /^text has/ });

@@ -151,13 +151,13 @@ static jadvolni_table *set_table(void)
     return table;
 }
 
-/* How many of so many bad rows the array has. */
+/* How many of the bad rows the array has. */
 static size_t kept_of(uint64_t known)
 {
     return known < asked.bad_room ? known : asked.bad_room;
 }
 
-/* Calls the library, behind so many bad rows. */
+/* Calls the library, after the bad rows of earlier calls. */
 static answer call(const char *bytes, size_t len, bool is_last, const jadvolni_table *table, size_t capacity,
                    jadvolni_table_column *columns, uint64_t known)
 {
@@ -173,7 +173,7 @@ static answer call(const char *bytes, size_t len, bool is_last, const jadvolni_t
     return (answer){r.status, r.column, r.rows, r.bad_rows, r.place};
 }
 
-/* Reads a stretch of the text, whose first row is that one, behind so many bad rows. */
+/* Reads a stretch of the text, whose first row is that one, after the bad rows of earlier calls. */
 static answer read_rows(size_t start, size_t stop, bool is_last, size_t row, uint64_t known)
 {
     static jadvolni_table_column before[MOST_COLUMNS];

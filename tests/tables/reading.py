@@ -293,7 +293,7 @@ def counted_rows(text: bytes, dialect: Dialect) -> Iterator[Piece]:
 
 
 def read(text: bytes, dialect: Dialect, targets: Sequence[Optional[Target]], room: int) -> Answer:
-    """What a table is, read for so many rows at most, and the numbers that were read."""
+    """What a table is, read up to a limit of rows, and the numbers that were read."""
     numbers: Numbers = {}
     rows = list(counted_rows(text, dialect))
     for number, row in enumerate(rows[:room]):
@@ -330,7 +330,7 @@ def row_places(text: bytes, dialect: Dialect) -> List[Tuple[int, int]]:
 
 def read_skipping(text: bytes, is_last: bool, dialect: Dialect,
                   targets: Sequence[Optional[Target]], room: int) -> Tuple[Skipped, Numbers]:
-    """So many right rows at most, and the bad ones before the last of them.
+    """The right rows up to the limit, and the bad ones before the last of them.
 
     Values are told by their places in the arrays. Those of a bad row stand where the next is put.
     """

@@ -214,7 +214,7 @@ static PyMethodDef METHODS[] = {
     {"_arrow_array", arrow_array_of, METH_VARARGS, "A table or a column for Arrow."},
     {"_arrow_stream", arrow_stream_of, METH_VARARGS, "A table for Arrow, as a stream of one."},
     {"_row_count", row_count, METH_VARARGS, "How many rows a text has at most."},
-    {"_row_stops", row_stops, METH_VARARGS, "Where about so many parts of a text stop, each with a row."},
+    {"_row_stops", row_stops, METH_VARARGS, "Where the parts of a text stop, about this many, each with a row."},
     {"_array_code", array_code, METH_O, "The code of the arrays of a type."},
     {"_check_format", check_format, METH_O, "Raises FormatError where a format is invalid."},
     {"_check_fixed", check_fixed, METH_O, "Raises FormatError where a Fixed is invalid."},

@@ -174,7 +174,7 @@ static void release_array(arrow_array *array)
     array->release = NULL;
 }
 
-/* Borrows an array that has room for so many bytes. -1 with an exception. */
+/* Borrows an array with room for the bytes. -1 with an exception. */
 static int lend(PyObject *values, Py_ssize_t size, const char *name, Py_buffer *view)
 {
     if (PyObject_GetBuffer(values, view, PyBUF_ND) < 0)
@@ -192,7 +192,7 @@ static Py_ssize_t size_of_numbers(const char *format)
     return strchr(one, *format) ? 1 : strchr(two, *format) ? 2 : strchr(four, *format) ? 4 : 8;
 }
 
-/* Borrows the arrays of a column of so many rows. Texts have a place more, at which the last one stops. -1
+/* Borrows the arrays of a column with these rows. Texts have a place more, at which the last one stops. -1
  * with an exception. */
 static int lend_column(const column *it, Py_ssize_t rows, loan *lent)
 {
@@ -206,7 +206,7 @@ static int lend_column(const column *it, Py_ssize_t rows, loan *lent)
     return lend(it->bytes, (Py_ssize_t)places[rows], it->name, &lent->views[2]);
 }
 
-/* Makes the array of a column of so many rows. -1 with an exception. */
+/* Makes the array of a column with these rows. -1 with an exception. */
 static int make_column(arrow_array *array, PyObject *columns, Py_ssize_t index, Py_ssize_t rows)
 {
     column it;

@@ -110,7 +110,7 @@ static PyObject *shown_bound(PyObject *bound, const notation *written)
 /* The front of a text, in which bytes that aren't printable ASCII are told by their numbers. */
 static PyObject *shown_front(const borrowed_text *text)
 {
-    enum { MOST = 40 }; /* so many bytes are told */
+    enum { MOST = 40 }; /* at most this many bytes are shown */
     char shown[MOST * SHOWN_BYTE] = "";
     int size = 0;
     for (size_t k = 0; k < text->len && k < MOST; k++)

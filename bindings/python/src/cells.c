@@ -4,7 +4,7 @@
  */
 #include "core.h"
 
-/* So many bytes of a cell are told, and one more where it goes on. */
+/* At most this many bytes of a cell are shown; one more says that it goes on. */
 enum { TOLD = 40 };
 
 /* The bytes of a text from one place to another. */

@@ -26,7 +26,7 @@ static void raise_column(const core_state *state, jadvolni_result answer, size_t
     raise_fault(state, answer, start, len, &field);
 }
 
-/* An array.array of a type, of so many zeros. */
+/* An array.array of a type, filled with zeros. */
 static PyObject *zeros(const core_state *state, const number_type *type, size_t count)
 {
     if (count > PY_SSIZE_T_MAX / sizeof(uint64_t))

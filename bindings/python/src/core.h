@@ -170,7 +170,7 @@ PyObject *number_within(const core_state *state, const borrowed_text *text, cons
  * texts: the numbers then are how many bytes each has, and the last is a bytearray, which gets these bytes.
  * It gives how many rows were read, how many bytes they had, how many bad rows were skipped, and the faults
  * that are told. Where `bad` is -1, the first bad row ends the reading, and is told. Else they are skipped:
- * for 0 none is told, and else all, since reading stops behind so many. */
+ * 0 reports none; otherwise all are, since reading stops after that number. */
 PyObject *parse_table(PyObject *module, PyObject *const *args, Py_ssize_t count);
 
 PyObject *array_code(PyObject *module, PyObject *given);
@@ -183,13 +183,13 @@ PyObject *lines_in(PyObject *module, PyObject *args);
 /* Line and column of a place: line_column(text, place). */
 PyObject *line_column(PyObject *module, PyObject *const *args, Py_ssize_t count, PyObject *keywords);
 
-/* Where a row ends, behind its line feed, whose first bytes have so many quotes; or 0 where it goes on. */
+/* Where a row ends, behind its line feed, given the quotes in its first bytes; or 0 where it goes on. */
 size_t row_end(const char *text, size_t len, size_t quotes, int has_quotes);
 
 /* How often a byte stands in a text. */
 size_t count_of(const char *text, size_t len, char byte);
 
-/* Puts so many bits behind those that there are at a place. All others stay as they are. */
+/* Puts bits behind those that there are at a place. All others stay as they are. */
 void put_bits(uint8_t *to, size_t at, const uint8_t *from, size_t count);
 
 /* The same by _move_bits(to, at, from, count). */

@@ -7,7 +7,7 @@
 
 size_t count_of(const char *text, size_t len, char byte)
 {
-    enum { AT_ONCE = 240 }; /* so many are counted in a byte, and sixteen at once */
+    enum { AT_ONCE = 240 }; /* a byte counts up to this many, in sixteen lanes */
     size_t found = 0;
     for (; len >= AT_ONCE; text += AT_ONCE, len -= AT_ONCE) {
         uint8_t part = 0;
@@ -78,6 +78,27 @@ PyObject *lines_in(PyObject *module, PyObject *args)
     return PyLong_FromSize_t(lines);
 }
 
+/* A place that a caller has: one that no text reaches is as good as any other. -1 with an exception. */
+static int place_of(PyObject *given, size_t *place)
+{
+    PyObject *number = PyNumber_Index(given);
+    if (!number) {
+        if (PyErr_ExceptionMatches(PyExc_TypeError)) {
+            PyErr_Clear();
+            raise_type("place", "an integer", given, "");
+        }
+        return -1;
+    }
+    int overflows = 0;
+    long long signed_place = PyLong_AsLongLongAndOverflow(number, &overflows);
+    int is_negative = overflows < 0 || (overflows == 0 && signed_place < 0);
+    if (is_negative)
+        PyErr_Format(PyExc_ValueError, "place has to be 0 or more, and not %S", number);
+    Py_DECREF(number);
+    *place = overflows ? SIZE_MAX : (size_t)signed_place;
+    return is_negative ? -1 : 0;
+}
+
 PyObject *line_column(PyObject *module, PyObject *const *args, Py_ssize_t count, PyObject *keywords)
 {
     (void)module;
@@ -91,8 +112,8 @@ PyObject *line_column(PyObject *module, PyObject *const *args, Py_ssize_t count,
         PyErr_SetString(PyExc_TypeError, "line_column() needs the argument 'place'");
         return NULL;
     }
-    size_t place = PyLong_AsSize_t(found[1]);
-    if (PyErr_Occurred() || borrow("text", found[0], &text) < 0)
+    size_t place;
+    if (place_of(found[1], &place) < 0 || borrow("text", found[0], &text) < 0)
         return NULL;
     Py_BEGIN_ALLOW_THREADS
     position = jadvolni_line_column(text.bytes, text.len, place);
@@ -101,7 +122,7 @@ PyObject *line_column(PyObject *module, PyObject *const *args, Py_ssize_t count,
     return Py_BuildValue("(nn)", (Py_ssize_t)position.line, (Py_ssize_t)position.column);
 }
 
-/* How many rows a text has at most: its lines, or its records of so many bytes. */
+/* How many rows a text has at most: its lines, or its records of this size. */
 static size_t rows_in(const borrowed_text *text, size_t record)
 {
     return record ? text->len / record + (text->len % record > 0)
@@ -138,7 +159,7 @@ size_t row_end(const char *text, size_t len, size_t quotes, int has_quotes)
     return 0;
 }
 
-/* Where the last row ends of a text that has so many quotes with what stands before; or 0. */
+/* Where the last row of a text ends, given the number of quotes up to its end; or 0. */
 static size_t last_row_end(const char *text, size_t len, size_t quotes, int has_quotes)
 {
     if (!has_quotes) {
@@ -187,7 +208,7 @@ static size_t record_end(size_t len, size_t place, size_t record)
     return record < len - start ? start + record : len;
 }
 
-/* Where about so many parts of a text stop, which are of one size but that each ends with a row. */
+/* Where the parts of a text stop, about this many, of equal size except that each ends with a row. */
 static PyObject *stops_of(const borrowed_text *text, size_t count, int has_quotes, size_t record)
 {
     size_t stop = 0;

@@ -184,7 +184,7 @@ static int columns_of(const core_state *state, PyObject *given, columns *all)
     return made;
 }
 
-/* Puts the texts of so many rows of a text to where they belong, and their bits, if these were kept apart. -1
+/* Puts the texts of the rows read to where they belong, and their bits, if these were kept apart. -1
  * with an exception. */
 static int join(const columns *all, const borrowed_text *part, size_t rows)
 {
@@ -275,7 +275,7 @@ static PyObject *rows_of(const core_state *state, const question *asked, columns
                          faults_of(&bad, 1, part, asked->from, &asked->table));
 }
 
-/* The right rows of a part of a text, and the bad ones among them: so many at most, where some are told. */
+/* The right rows of a part of a text, and the bad ones among them, up to a number, if these are reported. */
 static PyObject *right_rows_of(const core_state *state, const question *asked, columns *all)
 {
     const borrowed_text *part = &asked->part;

@@ -12,7 +12,7 @@ static size_t size_of(const char *text, const jadvolni_cell_text *cell)
     return jadvolni_fold_quotes(text + cell->start, cell->size, NULL, 0);
 }
 
-/* Puts the bytes of a text to where there is room for so many. */
+/* Puts the bytes of a text to where there is room for them. */
 static void put_text(const char *text, const jadvolni_cell_text *cell, char *to, size_t size)
 {
     if (cell->has_doubled_quotes)

@@ -1,10 +1,12 @@
 """Tests of the examples, as commands: right files, wrong ones, and inputs that are hardly any."""
 
 import contextlib
+import functools
 import importlib.util
 import os
 import pathlib
 import re
+import resource
 import shutil
 import subprocess
 import sys
@@ -375,6 +377,14 @@ class Inputs(Case):
             for path, told in paths:
                 with self.subTest(name=name, path=path):
                     self.assertEqual(answer_of(name, path, *words), (1, "", f"{told}\n"))
+
+    def test_more_than_the_memory(self):
+        path = self.folder / "input"
+        path.touch()
+        os.truncate(path, 1 << 40)
+        limit = functools.partial(resource.setrlimit, resource.RLIMIT_AS, (1 << 32, 1 << 32))
+        answer = answer_of("big_file.py", path, preexec_fn=limit)
+        self.assertEqual(answer, (1, "", "there is not enough memory\n"))
 
     def test_a_full_device(self):
         for (name, *words), content in zip(COMMANDS, CONTENTS):

@@ -195,12 +195,27 @@ class Lines(unittest.TestCase):
         self.assertEqual(line_column("é\n\0", 4), (1, 1))
         self.assertEqual(line_column(b"", 0), (0, 0))
         self.assertEqual(line_column(text=b"\n", place=2**64 - 1), (1, 0))
+        self.assertEqual(line_column(b"\na", 2**64), (1, 1))
+
+    def test_any_integer(self):
+        class Place:
+            def __init__(self, place):
+                self.place = place
+
+            def __index__(self):
+                return self.place.pop()
+
+        self.assertEqual(line_column(b"a\nb", Place([2])), (1, 0))
+        self.assertRaises(IndexError, line_column, b"", Place([]))
+        for place, told in (-1, "0 or more, and not -1"), ("1", "an integer, and not str"):
+            with self.assertRaisesRegex((TypeError, ValueError), f"^place has to be {told}$"):
+                line_column(b"", place)
 
     def test_wrong_arguments(self):
         for words, named, kind in (
             ((b"",), {}, TypeError), ((), {}, TypeError), ((b"", "1"), {}, TypeError),
-            ((b"", 1.0), {}, TypeError), ((7, 1), {}, TypeError), ((b"", -1), {}, OverflowError),
-            ((b"", 2**64), {}, OverflowError), ((b"", 1), {"at": 2}, TypeError),
+            ((b"", 1.0), {}, TypeError), ((7, 1), {}, TypeError), ((b"", -1), {}, ValueError),
+            ((b"", -(2**64)), {}, ValueError), ((b"", 1), {"at": 2}, TypeError),
         ):
             with self.subTest(words=words):
                 self.assertRaises(kind, line_column, *words, **named)

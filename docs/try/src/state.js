@@ -16,7 +16,7 @@ export const TYPES = [
 /** The languages in which a call is written. */
 export const CALLERS = ["C", "C++", "Rust", "Python", "JavaScript", "Rattle"];
 
-/** So many characters of a text are read at most, and fit in an address. */
+/** The most characters of a text that are read, and fit in an address. */
 export const LONGEST = 100000;
 
 /** What the page shows where its address says nothing. */

@@ -14,9 +14,9 @@ const ROLES = {
   suffix: "suffix",
   rest: "not read",
 };
-/** So many bytes of a longer text are shown, those around its fault. */
+/** At most this many bytes of a longer text are shown, those around its fault. */
 const SHOWN = 240;
-/** So many parts of one role are told by their places. */
+/** At most this many parts of one role are listed with their places. */
 const TOLD = 8;
 
 /** The field whose rule an invalid format breaks. */

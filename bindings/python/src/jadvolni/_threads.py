@@ -71,7 +71,7 @@ def _join(values: Any, parts: list[Any], lines: list[int], counts: list[int]) ->
 def parse_in_threads(
     reader: Reader, text: Text, arrays: Table, room: int, threads: int, before: Part
 ) -> tuple[int, int]:
-    """Reads the parts of a text in several threads, into arrays with room for so many rows. Returns
+    """Reads the parts of a text in several threads, into arrays with room for the rows. Returns
     how many rows there are, and how many bad ones were skipped."""
     reader.parse(text, 0, arrays, 0, 0)  # (this refuses wrong arguments)
     # The pool comes last, so that its threads have ended when the memory that they use is let go.

@@ -7,7 +7,7 @@ use std::error::Error;
 use std::io::{self, Read, Write};
 use std::process::ExitCode;
 
-/// So many bad rows are told.
+/// At most this many bad rows are shown.
 const MOST: usize = 10;
 
 /// Tells the sum of the numbers to one writer, and the first bad rows with their count to another.

@@ -17,7 +17,7 @@ pub struct Amount<T> {
 }
 
 impl<T> Amount<T> {
-    /// So many units of the last place, of which there are 38 at most.
+    /// The amount, in units of the last place. There are at most 38 places.
     pub(crate) fn of(units: T, fixed: &Fixed) -> Self {
         let point = if fixed.0.point == 0 { b'.' } else { fixed.0.point };
         Amount { units, places: fixed.0.places.into(), point }

@@ -7,7 +7,7 @@ use std::ops::{Deref, DerefMut};
 use std::vec;
 use std::vec::Vec;
 
-/// So many bytes are taken at once; more where they are needed.
+/// The bytes that are allocated at first; more if they are needed.
 const FIRST: usize = (1 << 20) + 1;
 
 /// Bytes in a row, which grow up to a limit.
@@ -18,19 +18,19 @@ pub(crate) struct Block {
 }
 
 impl Block {
-    /// A block for fields or rows of so many bytes at most, and of one at least: behind one that is as long has another
+    /// A block for fields or rows of at most `size` bytes, and at least one: behind one that is as long has another
     /// byte room, which tells whether it is longer.
     pub(crate) fn of(size: usize) -> Self {
         let limit = size.max(1).saturating_add(1);
         Block { bytes: vec![0; limit.min(FIRST)], limit }
     }
 
-    /// Whether so many bytes are all that there may be.
+    /// Whether `filled` bytes are all that there may be.
     pub(crate) fn is_full(&self, filled: usize) -> bool {
         filled == self.limit
     }
 
-    /// The room behind so many bytes, where it isn't full. There is some: it grows where there is none.
+    /// The room behind the first `filled` bytes, where it isn't full. There is some: it grows where there is none.
     pub(crate) fn room(&mut self, filled: usize) -> io::Result<&mut [u8]> {
         if filled == self.bytes.len() {
             let size = self.limit.min(self.bytes.len().saturating_mul(2));

@@ -126,7 +126,7 @@ impl<R: Read, T: ColumnInteger> ColumnReader<R, T> {
         }
     }
 
-    /// Parses so many bytes, which are whole fields, and keeps the others.
+    /// Parses the first `whole` bytes, which are whole fields, and keeps the others.
     fn parse(&mut self, whole: usize) -> Result<(), ReadError> {
         let text = &self.block[..whole];
         let told = parse_column_with_format(text, self.separator, &self.format, &mut self.numbers);

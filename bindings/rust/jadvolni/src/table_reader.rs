@@ -261,7 +261,7 @@ impl<'a, R: Read> TableReader<'a, R> {
         Ok(rows)
     }
 
-    /// Tells so many bad rows of the bytes that are left.
+    /// Reports the bad rows found in the remaining bytes.
     fn tell_bad_rows(&self, count: usize, tell: &mut impl FnMut(TableFault)) {
         let text = &self.block[self.parsed..self.filled];
         let (mut lines, mut counted) = (0, 0);
@@ -298,7 +298,7 @@ impl<'a, R: Read> TableReader<'a, R> {
         self.is_last || text.len() / 2 >= self.tried || self.ends.stop_in(text).is_some()
     }
 
-    /// Goes behind so many bytes, which are whole rows.
+    /// Passes the next bytes, which are whole rows.
     fn pass(&mut self, size: usize) {
         self.lines += line_feeds(&self.block[self.parsed..self.parsed + size]);
         self.parsed += size;

@@ -141,7 +141,7 @@ fn starts_of_fields() {
     assert_eq!(field_start(b"1\x002", 0), 2);
 }
 
-/// The numbers of a text that comes in blocks of so many bytes, with room for so many, and the fault with its place.
+/// The numbers of a text that comes in blocks of a size, with room for some at a time, and the fault with its place.
 fn in_blocks(text: &[u8], size: usize, room: usize) -> (Vec<i16>, Option<(usize, Error)>) {
     let (mut found, mut kept, mut start) = (Vec::new(), Vec::new(), 0);
     for block in text.chunks(size).chain([&b""[..]]) {

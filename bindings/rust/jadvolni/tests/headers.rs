@@ -7,7 +7,7 @@ use jadvolni::{
 };
 use std::io::{self, Read};
 
-/// Gives so many bytes at once.
+/// Gives a fixed number of bytes at once.
 struct Steps<'a>(&'a [u8], usize);
 
 impl Read for Steps<'_> {

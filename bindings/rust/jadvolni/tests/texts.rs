@@ -254,7 +254,7 @@ mod with_memory {
         assert_eq!(texts, [CellText::NONE]);
     }
 
-    /// Gives so many bytes at once.
+    /// Gives a fixed number of bytes at once.
     struct Steps<'a>(&'a [u8], usize);
 
     impl Read for Steps<'_> {
@@ -266,7 +266,7 @@ mod with_memory {
 
     const ROWS: &str = "what;cents\r\na;1,00\n\"b;\"\"\n\"\"\";2,00\r\n;x\nlong;3,00";
 
-    /// The texts of the rows, by blocks of so many bytes and by so many rows a call, with one quote for each two.
+    /// The texts of the rows, by blocks of a size, and some rows a call, with one quote for each two.
     fn read_by(size: usize, most: usize, step: usize) -> Vec<(String, i64)> {
         let mut rows = TableReader::with_capacity(size, Steps(ROWS.as_bytes(), step), bank());
         let header = rows.header().unwrap();

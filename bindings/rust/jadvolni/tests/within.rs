@@ -1,5 +1,9 @@
 //! Numbers within bounds, beside the same parse without.
 
+#[allow(dead_code)]
+#[path = "../examples/settings.rs"]
+mod settings;
+
 use jadvolni::{parse, parse_fixed, parse_fixed_within, parse_within, parse_within_with_format};
 use jadvolni::{Error, Fixed, Format, WithinError};
 
@@ -130,4 +134,23 @@ fn amounts() {
     let error: Box<dyn std::error::Error + Send + Sync> =
         parse_fixed_within("6.00", 1..=5u8, &CENTS).unwrap_err().into();
     assert_eq!(format!("{error:>9}"), "6.00 is not from 0.01 to 0.05");
+}
+
+/// What the example says of words, or what is wrong.
+fn said(words: &[&str], mut output: impl std::io::Write) -> String {
+    let words: Vec<_> = words.iter().map(Into::into).collect();
+    settings::run(&words, &mut output).map_or_else(|error| error.to_string(), |()| String::new())
+}
+
+#[test]
+fn settings_of_a_command_line() {
+    let mut output = vec![];
+    assert_eq!(said(&["80", "7"], &mut output), "");
+    assert_eq!(output, b"port 80, 7 percent\n");
+    assert_eq!(said(&["70000", "7"], &mut output), "70000 is not from 1 to 65535");
+    assert_eq!(said(&["80", "07"], &mut output), "forbidden leading zero at byte 0");
+    assert_eq!(said(&["80"], &mut output), "usage: settings PORT PERCENT");
+    let full = std::fs::File::create("/dev/full").unwrap();
+    let told = "standard output: No space left on device (os error 28)";
+    assert_eq!(said(&["80", "7"], full), told);
 }

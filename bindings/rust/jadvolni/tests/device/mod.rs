@@ -1,7 +1,7 @@
 //! What the tests of readers read from.
 use std::io::{self, ErrorKind, Read};
 
-/// A reader of a text that gives so many bytes at most, and fails before the byte at each of some places, once each.
+/// A reader of a text that gives few bytes at once, and fails before the byte at each of some places, once each.
 pub struct Device<'a> {
     text: &'a [u8],
     most: usize,
