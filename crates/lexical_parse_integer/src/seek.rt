@@ -121,7 +121,7 @@ fn behind_run(
         → run_passes format (starts_behind_prefix start) radix bytes.now start position
         (run_stop format bytes.now position) ≡ false }
 {
-    let stop = run_stop(bytes, &format, position);
+    let stop = run_stop(bytes, &format, position + 1);
     if run_passes(bytes, &format, radix, start, position, stop) {
         Some(stop)
     } else {

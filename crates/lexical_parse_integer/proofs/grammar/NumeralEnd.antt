@@ -1,5 +1,5 @@
 -- Which places belong to a numeral, and what its end follows from: for the search of the next digit.
-use Rattle.std.proofs.Common.{◌≡◌, ℕ, suc, ◌≤◌, ◌<◌, Bool, true, false, List, length, Some, None, option_and_then, refl, sym, ◌∙◌, ap, arith, inl, inr}
+use Rattle.std.proofs.Common.{◌≡◌, ℕ, suc, ◌+◌, ◌≤◌, ◌<◌, Bool, true, false, List, length, Some, None, option_and_then, refl, sym, ◌∙◌, ap, arith, inl, inr}
 use Rattle.std.proofs.lemmas.Bool.{false≢true, cases_lt}
 use Rattle.std.proofs.lemmas.Option.{slice_get_past}
 use Rattle.lexical_parse_integer.specs.Runs.{are_same, is_in_numeral, digit_at, end_of, is_in_passing_run, run_begin, run_passes, run_stop, separator_at}
@@ -35,6 +35,19 @@ run_below f b p q first run =
           let outside = run.fails (omega (arith, separator_at_within f b p first)) in
           absurd (false≢true (sym (rw e at outside) ∙ first))
     ]
+
+-- it ends where the run from its second byte on ends
+pub run_from_second : (f : Format) (b : List ℕ) (p : ℕ) → separator_at f b p ≡ true → run_stop f b (p + 1) ≡ run_stop f b p
+run_from_second f b p first =
+    let within = separator_at_within f b p first in
+    let rest = IsStop-stop_of (separator_at f b) (p + 1) (length b) (omega arith) in
+    let low = rest.low in
+    sym (stop_of_is (separator_at f b) p (length b) (run_stop f b (p + 1)) (omega arith) (record {
+      low = omega arith;
+      high = rest.high;
+      holds = λ k l h. elim (cases_lt p k) [ inl lt ↦ rest.holds k (omega arith) h | inr ge ↦ let e : k ≡ p = omega arith in ap (separator_at f b) e ∙ first ];
+      fails = rest.fails;
+    }))
 
 module _ (f : Format) (pre : Bool) (r : ℕ) (b : List ℕ) (j : ℕ) where
   pub belongs_digit : (k v : ℕ) → digit_at r b k ≡ Some v → is_in_numeral f pre r b j k ≡ true
