@@ -129,15 +129,15 @@ SETS: dict[str, columns.Text] = {
         EXPORT, "export", shows=[str, str, quoted, amount], readers=readers_of_export),
 }
 ABOUT = ("The cells are of `i64`, with a comma between two of a row. A block from C has 64 KiB, "
-         "one of `iter_table` 1 MiB, and a chunk 20,000 rows. Below the plain tables stand ledgers "
-         "of 3 columns of other kinds: there the loop of `from_chars` is the least that reads the "
-         "kind. A missing cell is empty. The text stands before the three, isn't read, and counts "
-         "as a cell. The ledger with amounts and texts has a number, a day, a text within quotes "
-         "and an amount with two places. Its texts are places for the C call, bytes that aren't "
-         "decoded for `read_table`, and `str` for pandas, whose amounts are floats. One pass over "
-         "the bytes only counts line feeds and commas, by 64 bytes at once: no reader by such "
-         "lanes takes less. While other guests load the processor, all readers slow down, "
-         "`from_chars` least: then the C call took 0.8 to 1.4.")
+         "one of `iter_table` 1 MiB, and a chunk 20,000 rows. Below the plain tables are ledgers "
+         "of three columns of other kinds, where the loop of `from_chars` does no more than that "
+         "kind needs. A missing cell is empty. The text column comes before the three others; it "
+         "isn't read, but counts as a cell. The ledger with amounts and texts has a number, a day, "
+         "a text within quotes and an amount with two places. Its texts are places for the C call, "
+         "undecoded bytes for `read_table`, and `str` for pandas, whose amounts are floats. One "
+         "pass over the bytes only counts line feeds and commas, 64 bytes at a time: no reader "
+         "that works this way can take less. While other virtual machines use the processor, all "
+         "readers slow down, `from_chars` least: then the C call took 0.8 to 1.4.")
 
 
 def by_csv(text: bytes) -> list[list[int]]:

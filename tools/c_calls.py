@@ -104,7 +104,7 @@ class Library:
 
     def __init__(self, path: str) -> None:
         """PATH: where libjadvolni.so is."""
-        self.library = ctypes.CDLL(row_data.made(path, "lib"))
+        self.library = row_data.loaded(path)
         self.library.jadvolni_format_error.restype = ctypes.c_uint32
         forms = [what + under for what in ("", "_front", "_partial")
                  for under in ("", "_with_format")]

@@ -31,7 +31,7 @@ import check_misuse  # noqa: E402
 from c_calls import DECLARED  # noqa: E402
 from callers import (C_COMPILERS, CXX17, CXX_COMPILERS, OPTIMISED, SANITIZED, TOP,  # noqa: E402
                      Failed, Place, Skipped, Step, build, needs, needs_shared, run, source, text_of)
-from row_data import TYPES  # noqa: E402
+from row_data import TYPES, made  # noqa: E402
 
 LIBDIR = "/usr/lib/x86_64-linux-gnu"
 INSTALLED = ["PREFIX=/usr", f"LIBDIR={LIBDIR}"]
@@ -445,6 +445,7 @@ def main() -> int:
     parser = argparse.ArgumentParser()
     parser.add_argument("--lib", default=source("build"))
     libraries = os.path.abspath(parser.parse_args().lib)
+    made(os.path.join(libraries, "libjadvolni.a"), "lib")
     with tempfile.TemporaryDirectory() as folder:
         # A program that was linked with the shared library looks for it by its SONAME.
         linked = os.path.join(folder, "lib")

@@ -1,6 +1,7 @@
 """Reads the test vectors of tools/rows.txt and tools/languages.txt: each says how its rows look."""
 from __future__ import annotations
 
+import ctypes
 import os
 import re
 import sys
@@ -49,6 +50,14 @@ def made(path: str, target: str) -> str:
     if not os.path.isfile(path):
         sys.exit(f"there is no {path}: make {target} makes one")
     return path
+
+
+def loaded(path: str) -> ctypes.CDLL:
+    """The shared library that `make lib` leaves. A sentence says of another file that it is none."""
+    try:
+        return ctypes.CDLL(made(path, "lib"))
+    except OSError as error:
+        sys.exit(f"this is no shared library: {error}")
 
 
 def positive(word: str) -> int:

@@ -21,7 +21,7 @@ sys.path.insert(0, os.path.join(TOP, "tools"))
 from slow_fixed import FIXED, Fixed, number_text, read, spoilt  # noqa: E402
 from c_calls import BEFORE, CFormat, CResult, NUMBERS, STATUSES, c_format  # noqa: E402
 from reference import TYPES, Value  # noqa: E402
-from row_data import made, positive  # noqa: E402
+from row_data import loaded, positive  # noqa: E402
 
 ALPHABET = b"0159.,-+x"
 SHORT = 5
@@ -52,7 +52,7 @@ class Library:
 
     def __init__(self, path: str) -> None:
         """PATH: where libjadvolni.so is."""
-        library = ctypes.CDLL(made(path, "lib"))
+        library = loaded(path)
         self.calls = {}
         for name in TYPES:
             for form in ("_fixed", "_fixed_front"):
