@@ -77,7 +77,7 @@ def checkout(word: str) -> str:
 
 def asked(about: str, unit: str, size: int, rounds: int, compares: bool = False,
           has_files: bool = False) -> Asked:
-    """What the command line asks of a script, which else reads so many units so often. One that
+    """What the command line asks of a script, by default this size and number of rounds. One that
     compares may be asked for another checkout, and one that has files for the size of one."""
     parser = options(about, rounds)
     parser.add_argument(f"--{unit}", type=positive, default=size, help=f"{unit} of a text")
