@@ -34,28 +34,28 @@ $(PROGRAM) $(FOR_SHELLS) $(COUNTED):
 	@RT="$(RT)" tools/build.sh $(@F)
 	@touch $@
 
-check: answers test-c ## proves and builds what one uses, and runs the test vectors and the callers of the library
+check: answers test-c ## proves and builds program and library, and runs the test vectors and the callers of the library
 
-test: | toolchain ## the gate: proves everything from nothing, has every must-fail edit refused, runs every test
+test: | toolchain ## the gate: proves everything from nothing, sees every must-fail edit refused, runs every test
 	@RT="$(RT)" tools/gate.sh
 
-devices: $(PROGRAM) ## runs the program over devices that refuse; a part of the gate
+devices: $(PROGRAM) ## runs the program on devices that fail; a part of the gate
 	@tools/devices.py $(PROGRAM)
 
 answers: $(PROGRAM) ## has the program answer every test vector and every stored input; a part of the gate
 	@tools/run_rows.py $(PROGRAM)
 
-install: install-programs install-lib ## puts the programs and the library where users look: PREFIX, DESTDIR
+install: install-programs install-lib ## installs the programs and the library: PREFIX, DESTDIR
 
-uninstall: uninstall-programs uninstall-lib ## takes them away
+uninstall: uninstall-programs uninstall-lib ## removes them
 
-install-programs: paths $(PROGRAM) $(FOR_SHELLS) ## puts the programs alone there
+install-programs: paths $(PROGRAM) $(FOR_SHELLS) ## installs the programs only
 	install -d "$(DESTDIR)$(PREFIX)/bin" "$(DESTDIR)$(MANDIR)/man1"
 	install -m 755 $(PROGRAM) $(FOR_SHELLS) "$(DESTDIR)$(PREFIX)/bin"
 	for program in lexint jad; do \
 	    $(FILL) packaging/$$program.1.in > "$(DESTDIR)$(MANDIR)/man1/$$program.1" || exit 1; done
 
-uninstall-programs: paths ## takes the programs away
+uninstall-programs: paths ## removes the programs
 	for program in lexint jad; do \
 	    rm -f "$(DESTDIR)$(PREFIX)/bin/$$program" "$(DESTDIR)$(MANDIR)/man1/$$program.1" || exit 1; done
 
@@ -68,7 +68,7 @@ check-dist:
 dist: check-dist lib lexint jad build/page ## writes dist/, the archives of a release, from a clean tree: docs/RELEASING.md
 	@RT=$(RT) packaging/dist.sh
 
-test-dist: ## tries these as users get them, in a root without the toolchain; not a part of the gate
+test-dist: ## tests these as users get them, in a root without the toolchain; not a part of the gate
 	@packaging/test_dist.sh
 
 tag: ## makes the version's tag, whose message is dist/SHA256SUMS
@@ -81,7 +81,7 @@ rows: | toolchain ## writes the theorems of the test vectors from tools/rows.txt
 	@python3 tools/rows.py
 	@cd crates/rows && "$(RT)" fmt
 
-docs: ## writes what documents have from the source: docs/CONTRACTS.md, docs/FORMATS.md, code blocks, the page
+docs: ## writes what pages and lists have from the source: docs/CONTRACTS.md, docs/FORMATS.md, code blocks, the page
 	@python3 tools/documents.py
 	@$(if $(NODE),node docs/try/src/join.mjs,echo "skipped: there is no node from 20 on to write docs/try/index.html")
 
@@ -100,17 +100,17 @@ check-languages: $(PROGRAM) build/libjadvolni.so ## compares the formats of lang
 SEED ?=
 LINES ?= 200000
 
-fuzz: $(PROGRAM) ## runs the program beside a reference implementation of the grammar: SEED=1 LINES=1000000
+fuzz: $(PROGRAM) ## compares the program with a reference implementation of the grammar: SEED=1 LINES=1000000
 	@python3 tools/reference_lines.py --check
 	@python3 tools/fuzz.py --lines $(LINES) $(if $(SEED),--seed $(SEED))
 
-fuzz-edges: $(PROGRAM) ## the same over each length, end of a type and place of a separator: 3 million lines
+fuzz-edges: $(PROGRAM) ## the same for each length, limit of a type and place of a separator: 3 million lines
 	@python3 tools/fuzz.py --edges
 
 # What it is asked: make fuzz-tables TABLES="--tables 1000000 --seed 1", or TABLES="--all --longest 6".
 TABLES ?=
 
-fuzz-tables: $(LIBRARIES) ## runs tables through the C call, beside a slow reading: random ones, or all short texts
+fuzz-tables: $(LIBRARIES) ## compares tables read by the C call with a slow reader: random ones, or all short texts
 	@CC=$(CC) tests/tables/compare.py $(TABLES)
 
 # What bench/run.py is asked: make bench BENCH="--rounds 50 --no-counts".

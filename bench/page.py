@@ -67,14 +67,23 @@ class Asked:
                 f"{self.size} {self.unit}, seed {self.seed}, {self.rounds} rounds.")
 
 
+def checkout(word: str) -> str:
+    """A checkout whose library is built."""
+    library = os.path.join(word, "build", "libjadvolni.a")
+    if not os.path.isfile(library):
+        raise argparse.ArgumentTypeError(f"there is no {library}: make lib makes one there")
+    return word
+
+
 def asked(about: str, unit: str, size: int, rounds: int, compares: bool = False,
           has_files: bool = False) -> Asked:
-    """What the command line asks of a script, which else reads so many units so often. One that
+    """What the command line asks of a script, by default this size and number of rounds. One that
     compares may be asked for another checkout, and one that has files for the size of one."""
     parser = options(about, rounds)
     parser.add_argument(f"--{unit}", type=positive, default=size, help=f"{unit} of a text")
     if compares:
-        parser.add_argument("--against", default="", help="another built checkout")
+        parser.add_argument("--against", type=checkout, default="",
+                            help="another built checkout")
     if has_files:
         parser.add_argument("--megabytes", type=positive, default=0, help="read a file, by blocks")
     found = parser.parse_args()

@@ -66,6 +66,7 @@ CASES = [
     Case("bench/run . nowhere", f"nowhere/bench/workloads.txt: {NEITHER}"),
     Case("bench/run . ..", NEITHER),
     Case("bench/run .", "usage: "),
+    Case("bench/tables.py --against nowhere", "there is no nowhere/build/libjadvolni.a: make lib"),
     Case("make run RT=nowhere", "there is no `nowhere` on the PATH"),
     Case("make lib RT=nowhere", "there is no `nowhere` on the PATH"),
     Case("make test RT=nowhere", "there is no `nowhere` on the PATH"),

@@ -206,9 +206,10 @@ INTRODUCTION = [
     "error; `MatchOption o A P` says A, if o is `None`, and else P of its value; `All P xs` says "
     "P of each item. "
     "`option_map f o` applies f to the value, if there is one. `length`, `map`, `take n` and "
-    "`drop n` are those of lists, `slice_index xs i` and `slice_get xs i` the item at `i`, "
-    "`slice_range xs i j` those from `i` to before `j`, `codes \"-0\"` the bytes of a text. "
-    "`bit_at n k` is the bit k of n, `signed_decimal n` its digits with a minus if it is "
+    "`drop n` are those of lists. `slice_get xs i` is the item at `i`, or `None` behind the last, "
+    "and `slice_index xs i` that item, or 0; `slice_range xs i j` has those from `i` to before "
+    "`j`, and `codes \"-0\"` the bytes of a text. "
+    "`bit_at n k` is the bit k of n, 0 or 1, `signed_decimal n` its digits with a minus if it is "
     "negative, `pos n` n as an integer. `YieldsFirstBy` says that an iterator gives the items "
     "of its list in order. Of an integer type `T`, `T.TYPE` is its width and sign, and "
     "`T.number x` the number that `x` is.", "",

@@ -89,7 +89,7 @@ paths:
 FILL = umask 022; sed -e 's|@PREFIX@|$(PREFIX)|; s|@LIBDIR@|$(LIBDIR)|; s|@INCLUDEDIR@|$(INCLUDEDIR)|' \
     -e 's|@VERSION@|$(VERSION)|; s|@SOVERSION@|$(SOVERSION)|'
 
-install-lib: paths $(LIBRARIES) ## puts the library where compilers look: PREFIX, LIBDIR, DESTDIR
+install-lib: paths $(LIBRARIES) ## installs the library: PREFIX, LIBDIR, DESTDIR
 	install -d "$(DESTDIR)$(INCLUDEDIR)" "$(TO)/pkgconfig" "$(TO)/cmake/jadvolni" "$(PAGES)" "$(DESTDIR)$(DOCDIR)"
 	install -m 644 $(HEADERS:%=include/%) "$(DESTDIR)$(INCLUDEDIR)"
 	install -m 644 build/libjadvolni.a "$(TO)"
@@ -103,7 +103,7 @@ install-lib: paths $(LIBRARIES) ## puts the library where compilers look: PREFIX
 	umask 022; for page in $(CALLS); do echo .so man3/jadvolni.3 > "$(PAGES)/$$page.3" || exit 1; done
 	install -m 644 $(LICENCES) "$(DESTDIR)$(DOCDIR)"
 
-uninstall-lib: paths ## takes the library away
+uninstall-lib: paths ## removes the library
 	for header in $(HEADERS); do rm -f "$(DESTDIR)$(INCLUDEDIR)/$$header" || exit 1; done
 	rm -f "$(TO)/libjadvolni.a" "$(TO)/libjadvolni.so" "$(TO)/libjadvolni.so.$(SOVERSION)" "$(TO)/libjadvolni.so.$(VERSION)"
 	rm -f "$(TO)/pkgconfig/jadvolni.pc"
@@ -114,14 +114,14 @@ uninstall-lib: paths ## takes the library away
 	    [ ! -d "$$folder" ] || rmdir --ignore-fail-on-non-empty "$$folder" || exit 1; done
 
 # Without a compiler of C there is no shared library; check_c.py says what it skips then.
-test-c: build/libjadvolni.a $(SHARED) ## runs the callers in C, C++, Rust and Python; a part of the gate
+test-c: build/libjadvolni.a $(SHARED) ## tests the callers in C, C++, Rust and Python; a part of the gate
 	@python3 tools/check_c.py
 
 # Node has 64-bit memories without a flag from 24 on.
 NODE := $(shell node -p 'parseInt(process.versions.node) < 20 ? "" : process.execPath' 2>/dev/null)
 NODE_FLAGS = $(shell node -p 'parseInt(process.versions.node) < 24 ? "--experimental-wasm-memory64" : ""')
 
-test-js: $(if $(NODE),wasm) ## runs the calls of JavaScript; a part of the gate
+test-js: $(if $(NODE),wasm) ## tests the calls of JavaScript; a part of the gate
 	@$(if $(NODE),timeout 900 node $(NODE_FLAGS) --test tests/js/*.test.js,echo "skipped: there is no node from 20 on")
 
 # The page to try a format on, with what it takes, as it is served and released.
@@ -144,5 +144,5 @@ test-page: $(if $(BROWSER),build/page) ## has Chromium show the page every test 
 PARSES ?= 1000000
 FORMATS ?= 100000
 
-check-c: $(LIBRARIES) ## runs random parses through the C calls, beside the reference: SEED, PARSES, FORMATS
+check-c: $(LIBRARIES) ## compares random parses by the C calls with the reference: SEED, PARSES, FORMATS
 	@python3 tools/fuzz_c.py --parses $(PARSES) --formats $(FORMATS) $(if $(SEED),--seed $(SEED))

@@ -61,7 +61,7 @@ function firstRow(bytes, how, ask) {
 
 /**
  * The names of a text's columns, and the place behind them. `ask` throws where the row from a place to another is too
- * long, and `judge` where it isn't one of so many columns: the library has the rules.
+ * long, and `judge` where it isn't a row with that number of columns: the library has the rules.
  */
 export function headerOf(bytes, how, ask, judge) {
   const { start, stop } = firstRow(bytes, how, ask);

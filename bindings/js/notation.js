@@ -44,8 +44,8 @@ function widthOf(width) {
   throw new TypeError(`a width has to be a safe integer of 0 or more, and not ${told(width)}`);
 }
 
-/** The width of each column's cells; none where these stand between separators. Where a header says how many columns
- * there are, so many widths do. */
+/** The width of each column's cells; none where these stand between separators. If a header gives the number
+ * of columns, there is a width for each. */
 function widthsOf({ separator, is_records, widths }, count) {
   if (widths === undefined) {
     if (is_records) throw new TypeError("a table that is_records has to have widths");

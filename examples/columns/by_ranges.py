@@ -47,7 +47,7 @@ def quotes_in(path: str, start: int, stop: int) -> int:
 def row_behind(file, place: int, quotes: int) -> int:
     """Where the first row starts behind one that ends at a place or later.
 
-    So many quotes stand before the place: a line feed behind an odd number ends no row.
+    `quotes` quotes come before the place: a line feed after an odd number of them ends no row.
     """
     for block in blocks_of(Part(file, place, sys.maxsize)):
         lines = block.split(b"\n")
@@ -63,7 +63,7 @@ def read_range(path: str, start: int, stop: int, quotes):
     """The rows of a range, or what is wrong with the first wrong cell. A worker calls this.
 
     They are those behind the first one that ends in the range, up to the first one that ends behind
-    it. A range at the file's start has the first row too. So many quotes stand before either end.
+    it. A range at the file's start has the first row too. `quotes` says how many precede each end.
     """
     with open(path, "rb") as file:
         first = row_behind(file, start, quotes[0]) if start else 0

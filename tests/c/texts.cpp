@@ -245,8 +245,8 @@ static void by_header()
     CHECK(of_both.read("what;cents\n;1\n", 4).rows() == 1 && cents[0] == 1 && is(texts[0], 7, 1));
 }
 
-// The texts of the rows with their amounts, by blocks of so many bytes and by so many rows at once. The reader gives so
-// many bytes at once.
+// The texts of the rows with their amounts, by blocks of `size` bytes, `capacity` rows at once. The reader gives `step`
+// bytes at once.
 static std::string in_blocks(std::string_view text, std::size_t size, std::size_t capacity, std::size_t step)
 {
     auto read = [text, step](char *to, std::size_t room) mutable {

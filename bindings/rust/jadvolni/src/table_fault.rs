@@ -72,8 +72,7 @@ impl Cell {
 }
 
 impl TableFault {
-    /// That of an error in the first of the rows that these bytes are, which start at a place and behind so many line
-    /// feeds.
+    /// That of an error in the first row of some bytes, which start at a place of the text, after `lines` line feeds.
     pub(crate) fn in_first_row(
         error: TableError,
         start: usize,
