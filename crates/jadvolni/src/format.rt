@@ -245,7 +245,8 @@ impl FormatFields {
     pub(crate) fn stored_format(&self) -> NumberFormat
         ensures { result ≡ format_of self.now }
     {
-        self.builder().build_of_kind(self.kind_first())
+        let kind = self.kind_first();
+        self.builder().build_of_kind(kind)
     }
 
     /// The format that the fields stand for, which may be invalid.

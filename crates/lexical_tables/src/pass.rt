@@ -44,12 +44,7 @@ pub(crate) fn marked_separator(text: &[u8], dialect: &Dialect<'_>) -> Option<u8>
 // had, up to the row's end, if nothing is wrong there. Without `HAS_CALLS` no call stands in the loop, so that all it needs
 // stays in registers.
 #[inline(always)]
-pub(crate) fn read_cells_at_once<
-    'a,
-    C: TableColumn,
-    const HAS_QUOTES: bool,
-    const HAS_CALLS: bool,
->(
+pub(crate) fn read_cells_at_once<'a, C: TableColumn, const HAS_QUOTES: bool, const HAS_CALLS: bool>(
     text: &[u8],
     from: Left<'a>,
     first: usize,
