@@ -86,8 +86,9 @@ CASES = [
          "tools/fields.txt:25: not as the lines above: x | flag"),
     Case("sed -i '/^x |/d' tools/fields.txt; echo x >> bindings/errors.txt; make -s docs",
          "bindings/errors.txt:35: not as the lines above: x"),
-    Case("sed -i '/^x$/d' bindings/errors.txt; echo '== nowhere: No language' >> tools/languages.txt;"
-         " python3 tools/rows.py", "nowhere: fewer than 4 texts that are read, or that are refused"),
+    Case("sed -i '/^x$/d' bindings/errors.txt;"
+         " echo '== nowhere: No language' >> tools/languages.txt; python3 tools/rows.py",
+         "nowhere: fewer than 4 texts that are read, or that are refused"),
     Case("sed -i '/^== nowhere/d' tools/languages.txt; printf '\\377' >> tools/rows.txt;"
          " python3 tools/rows.py", "tools/rows.txt is no UTF-8"),
     Case("sed -i '$d' tools/rows.txt; echo ======= >> bench/causes.txt; python3 tools/documents.py",

@@ -78,7 +78,7 @@ class Region(NamedTuple):
 
 
 def rows_of(top: str, path: str, between: str, count: int) -> list[list[str]]:
-    """The lines of a list but its comments, each in `count` parts. It ends the program at others."""
+    """The lines of a list but its comments, each in `count` parts. Others end the program."""
     rows = []
     for number, line in enumerate(source.read(os.path.join(top, path)).splitlines(), 1):
         parts = line.split(between)

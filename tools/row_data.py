@@ -53,7 +53,7 @@ def made(path: str, target: str) -> str:
 
 
 def loaded(path: str) -> ctypes.CDLL:
-    """The shared library that `make lib` leaves. A sentence says of another file that it is none."""
+    """The shared library that `make lib` leaves. Another file is refused by a sentence."""
     try:
         return ctypes.CDLL(made(path, "lib"))
     except OSError as error:

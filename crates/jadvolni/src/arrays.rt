@@ -180,7 +180,7 @@ impl ArrayFields<'_> {
         }
     }
 
-    // Puts the fixed-point number of a text's first bytes, so many, into a row's place, where the number is had at once and
+    // Puts the fixed-point number of a text's first bytes, so many, into a row's place, where the number is read at once and
     // the array's type is known.
     #[inline(always)]
     pub(crate) fn put_fixed_at_once(
@@ -215,7 +215,7 @@ impl ArrayFields<'_> {
         }
     }
 
-    // Puts the number of a text that isn't had at once into a row's place, or tells the text's fault, under the standard
+    // Puts the number of a text that isn't read at once into a row's place, or tells the text's fault, under the standard
     // format, if there is an array.
     #[inline(always)]
     pub(crate) fn put_standard_parsed(

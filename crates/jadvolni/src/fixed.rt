@@ -262,7 +262,7 @@ fn fixed_front_any<T: Integer, S: Slot<T>>(
     }
 }
 
-// The number in front of the text, under a plain description, where it isn't had at once.
+// The number in front of the text, under a plain description, where it isn't read at once.
 #[inline(never)]
 fn fixed_front_plain<T: Integer, S: Slot<T>>(
     text: &[u8],

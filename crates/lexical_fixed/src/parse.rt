@@ -205,7 +205,7 @@ fn front_behind<T: Integer>(
     }
 }
 
-// What the whole text stands for, where the quick way left it.
+// What the whole text stands for, where the fast path gave up.
 #[tactic(auto, unfolding(crate::specs::Grammar::complete_fixed))]
 #[inline(never)]
 pub(crate) fn read_whole<T: Integer>(text: &[u8], format: &FixedFormat) -> Result<T>

@@ -185,7 +185,7 @@ pub fn algorithm_partial<T: Integer>(
     }
 }
 
-// The partial answer for a text that the quick way leaves. Out of line, to keep callers small.
+// The partial answer for a text on which the fast path gives up. Out of line, to keep callers small.
 #[inline(never)]
 fn partial_out_of_line<T: Integer>(bytes: &[u8], format: &NumberFormat) -> Result<(T, usize)>
     requires valid { IsNone (fault format.now) }

@@ -1,6 +1,6 @@
 //! The parsers in two halves, for crates that stand on this one: columns, tables, and calls from C.
 //!
-//! The first half reads in place what is had at once, and its `None` says nothing of a text. The second half, for what the
+//! The first half is the fast path, inlined, and its `None` says nothing about a text. The second half, for what the
 //! first one left, has the answer.
 ghost use Rattle.std.specs.Prelude.{◌≡◌};
 ghost use Rattle.lexical_util.specs.Format.{standard};

@@ -1,4 +1,4 @@
-//! Numbers of cells that are had at once: as nearly all are.
+//! Numbers of cells that are read at once: as nearly all are.
 
 ghost use Rattle.std.specs.Prelude.{◌≡◌, ◌<◌, ◌≤◌, ◌+◌, ℕ, IsNone, IsTrue, None, Some, false, length, map, take};
 ghost use Rattle.lexical_util.specs.Validity.{fault};
@@ -105,7 +105,7 @@ impl Target<'_> {
         true
     }
 
-    // Puts the number of a text's first bytes, so many, into a row's place, where it is had at once.
+    // Puts the number of a text's first bytes, so many, into a row's place, where it is read at once.
     #[inline(always)]
     fn put_number_at_once(&mut self, row: usize, ahead: &[u8], size: usize) -> bool
         requires valid { IsNone (fault self.old.format) }

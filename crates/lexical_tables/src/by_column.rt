@@ -162,7 +162,7 @@ fn read_cell<C: TableColumn>(
     cell_fault(dialect, false, has_no_quote, cell)
 }
 
-// What is wrong with the number of a row's cells, or with its end, if so many have a column, and one more starts there.
+// The fault of a row with too few or too many cells, or a wrong end: `count` cells have a column, and one more may start at `extra`.
 pub(crate) fn end_fault(
     row: &Row<'_>,
     index: usize,
@@ -217,7 +217,7 @@ pub(crate) fn put_end_fault(
     *wrong = end_fault(&row, index, columns, count, None);
 }
 
-// Reads a cell as `read_cell` does, the first bytes of a text, so many, where it isn't had at once, and tells whether it is
+// Reads a cell as `read_cell` does, the first bytes of a text, so many, where it isn't read at once, and tells whether it is
 // right: else what is wrong is told. Out of line, to keep registers for the loop.
 #[inline(never)]
 pub(crate) fn read_by_column<C: TableColumn>(

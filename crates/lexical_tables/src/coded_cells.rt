@@ -181,7 +181,7 @@ fn code_of(codes: &[u8; CODED], column: usize) -> u8
 const SHORT: usize = 12;
 
 // Reads the cell of a column that `read_coded_cell` has left, the first bytes of a text, so many, by the column's code: more
-// digits, a text, or a number that is had at once. It tells whether it did.
+// digits, a text, or a number that is read at once. It tells whether it did.
 #[inline(always)]
 fn read_by_code<C: TableColumn>(
     targets: &mut [C],

@@ -1,4 +1,4 @@
-//! Cells of a row that aren't had at once.
+//! Cells of a row that aren't read at once.
 
 ghost use Rattle.std.specs.Prelude.{◌≡◌, ◌+◌, ◌-◌, ◌<◌, ◌≤◌, ◌^◌, List, None, Option, false, length, map, true};
 ghost use Rattle.lexical_tables.specs.ByColumn.{AreUsable, column_count};

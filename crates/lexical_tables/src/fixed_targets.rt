@@ -105,7 +105,7 @@ impl FixedTarget<'_> {
         put_presence(&mut self.present, row, false);
     }
 
-    // Puts the number of a text's first bytes, so many, into a row's place, and sets the row's bit, where it is had at once, and
+    // Puts the number of a text's first bytes, so many, into a row's place, and sets the row's bit, where it is read at once, and
     // tells whether it did.
     pub(crate) fn read_at_once(&mut self, row: usize, ahead: &[u8], size: usize) -> bool
         requires usable { IsUsable (row + 1) (Some (view_of_fixed self.old)) }
@@ -123,7 +123,7 @@ impl FixedTarget<'_> {
         true
     }
 
-    // Puts the number of a text's first bytes, so many, into a row's place, where it is had at once.
+    // Puts the number of a text's first bytes, so many, into a row's place, where it is read at once.
     fn put_number_at_once(&mut self, row: usize, ahead: &[u8], size: usize) -> bool
         requires valid { IsNone (fixed_fault self.old.format) }
         requires room { row < length (view_of_fixed self.old).values }
@@ -142,7 +142,7 @@ impl FixedTarget<'_> {
             .put_fixed_at_once(row, ahead, size, &self.format)
     }
 
-    // Puts the amount of a text's first bytes, so many, into a row's place, and sets the row's bit, where it is had at once, and
+    // Puts the amount of a text's first bytes, so many, into a row's place, and sets the row's bit, where it is read at once, and
     // tells whether it did.
     #[inline(always)]
     pub(crate) fn read_amount(&mut self, row: usize, ahead: &[u8], size: usize) -> bool
@@ -163,7 +163,7 @@ impl FixedTarget<'_> {
         true
     }
 
-    // Puts the amount of a text's first bytes, so many, into a row's place, where it is had at once.
+    // Puts the amount of a text's first bytes, so many, into a row's place, where it is read at once.
     #[inline(always)]
     fn put_amount(&mut self, row: usize, ahead: &[u8], size: usize) -> bool
         requires amounts { HasAmounts (Some (view_of_fixed self.old)) }

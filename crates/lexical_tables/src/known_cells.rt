@@ -1,4 +1,4 @@
-//! Cells whose columns have texts, or numbers that are had at once.
+//! Cells whose columns have texts, or numbers that are read at once.
 
 ghost use Rattle.std.specs.Prelude.{◌≡◌, ◌⊎◌, ◌&&◌, ◌+◌, ◌<◌, ◌≤◌, ◌^◌, ℕ, IsTrue, None, false, length, option_map, take, true};
 ghost use Rattle.std.specs.Str.{bytes_eq};
@@ -95,7 +95,7 @@ fn read_plain_text<C: TableColumn>(
     true
 }
 
-// The number of what a cell holds goes to the row's place, where it is had at once: whether it did.
+// The number of what a cell holds goes to the row's place, where it is read at once: whether it did.
 #[inline(always)]
 pub(crate) fn had_at_once<C: TableColumn>(target: &mut C, row: usize, held: Cell<'_>) -> bool
     requires usable { IsUsable (row + 1) (C.target target.old) }
@@ -175,7 +175,7 @@ pub(crate) fn read_plain<C: TableColumn>(
     false
 }
 
-// Reads a cell in its column of numbers, where its quotes are in place and it holds the mark, or a number that is had at once,
+// Reads a cell in its column of numbers, where its quotes are in place and it holds the mark, or a number that is read at once,
 // and tells whether it did.
 #[inline(always)]
 fn read_number_at_once<C: TableColumn>(
@@ -208,7 +208,7 @@ fn read_number_at_once<C: TableColumn>(
     had_at_once(target, row, held)
 }
 
-// Reads a cell of a column whose code says that it has texts, or numbers that are had at once, and tells whether it did.
+// Reads a cell of a column whose code says that it has texts, or numbers that are read at once, and tells whether it did.
 #[inline(always)]
 #[tactic(auto, using(crate::proofs::CodeSteps::numbers_said))]
 pub(crate) fn read_known<C: TableColumn>(

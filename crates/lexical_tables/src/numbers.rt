@@ -84,7 +84,7 @@ impl Numbers<'_> {
         }
     }
 
-    // Puts the number of a text's first bytes, so many, into a row's place, where it is had at once, and tells whether it did.
+    // Puts the number of a text's first bytes, so many, into a row's place, where it is read at once, and tells whether it did.
     #[inline(always)]
     pub(crate) fn put_at_once(
         &mut self,
@@ -118,7 +118,7 @@ impl Numbers<'_> {
         }
     }
 
-    // Puts the number of a text that isn't had at once into a row's place, or tells the text's fault.
+    // Puts the number of a text that isn't read at once into a row's place, or tells the text's fault.
     #[inline(always)]
     pub(crate) fn put_parsed(
         &mut self,
@@ -150,7 +150,7 @@ impl Numbers<'_> {
         }
     }
 
-    // Puts the fixed-point number of a text's first bytes, so many, into a row's place, where it is had at once, and tells whether
+    // Puts the fixed-point number of a text's first bytes, so many, into a row's place, where it is read at once, and tells whether
     // it did.
     pub(crate) fn put_fixed_at_once(
         &mut self,

@@ -1,4 +1,4 @@
-//! Numbers of cells that aren't had at once, and faults of cells.
+//! Numbers of cells that aren't read at once, and faults of cells.
 
 ghost use Rattle.std.specs.Prelude.{◌≡◌, ◌+◌, ◌<◌, ◌^◌, ℕ, IsNone, IsTrue, None, false, length, map};
 ghost use Rattle.lexical_util.specs.Format.{standard};
@@ -12,7 +12,7 @@ use lexical_parse_integer::parse::ParseInteger;
 use lexical_parse_integer::quick::{complete_standard, complete_valid, value_for_format};
 use lexical_parse_integer::{Error, NumberFormat, NumberFormatBuilder, format};
 
-// Puts the number of a cell that isn't had at once into a row's place, or tells the cell's fault: by the reader for its
+// Puts the number of a cell that isn't read at once into a row's place, or tells the cell's fault: by the reader for its
 // format's kind, or by the parser.
 #[inline(never)]
 pub(crate) fn put_parsed<T: ParseInteger>(

@@ -57,7 +57,7 @@ fn quoted_length(text: &[u8], separator: u8) -> usize
     length_by_16(text, separator, 16, look.is_within)
 }
 
-// How many they are, if so many bytes were passed: by sixteen at once.
+// The length of the cell that the text begins with, of which the first `passed` bytes are known: sixteen bytes at a time.
 #[inline(always)]
 fn length_by_16(text: &[u8], separator: u8, passed: usize, was_within: bool) -> usize
     requires passed { IsPassed separator text.now passed was_within }
@@ -85,7 +85,7 @@ fn is_stepped_over(byte: u8, separator: u8, is_within: bool) -> bool
     is_within || byte != separator
 }
 
-// How many they are, if so many bytes were passed: byte by byte.
+// The same length, byte by byte.
 #[inline(always)]
 fn length_by_bytes(text: &[u8], separator: u8, passed: usize, was_within: bool) -> usize
     requires passed { IsPassed separator text.now passed was_within }

@@ -178,7 +178,7 @@ pub trait TableColumn {
             (record { start = start; text = text.now })) (target self.old) };
 
     /// Puts the number that a text's first bytes, so many, stand for into a row's place, and sets the row's bit, where that
-    /// is had at once, and tells whether it did. Else it puts nothing, and says nothing of them: `read_left` has to be asked.
+    /// is read at once, and tells whether it did. Else it puts nothing, and says nothing of them: `read_left` has to be asked.
     ///
     /// A column that doesn't write it is read by `read` alone.
     fn read_at_once(&mut self, row: usize, ahead: &[u8], size: usize) -> bool
@@ -365,7 +365,7 @@ impl Target<'_> {
         put_presence(&mut self.present, row, false);
     }
 
-    // Puts the number of a text that isn't had at once into a row's place, and sets the row's bit, or tells the text's fault.
+    // Puts the number of a text that isn't read at once into a row's place, and sets the row's bit, or tells the text's fault.
     #[inline(always)]
     pub(crate) fn read_left(&mut self, row: usize, start: usize, text: &[u8]) -> Option<Error>
         requires usable { IsUsable (row + 1) (Some (view_of_target self.old)) }
@@ -382,7 +382,7 @@ impl Target<'_> {
         None
     }
 
-    // Puts the number of a text that isn't had at once into a row's place, or tells the text's fault.
+    // Puts the number of a text that isn't read at once into a row's place, or tells the text's fault.
     #[inline(always)]
     fn put_parsed_number(&mut self, row: usize, start: usize, text: &[u8]) -> Option<Error>
         requires valid { IsNone (fault self.old.format) }

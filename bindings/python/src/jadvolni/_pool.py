@@ -11,8 +11,8 @@ from typing import Any, Callable, Iterable, Optional, TypeVar
 T = TypeVar("T")
 _Call = tuple["Future[Any]", Callable[..., Any], tuple[Any, ...]]
 
-# A thread without a call ends after this many seconds. A process waits for its threads as it ends: so
-# it does end while it holds a table that isn't read to its end.
+# A thread without a call ends after this many seconds. A process waits for its threads as it ends:
+# so it does end while it holds a table that isn't read to its end.
 _IDLE = 0.1
 
 

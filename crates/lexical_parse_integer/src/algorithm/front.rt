@@ -1,5 +1,5 @@
 // A text read from its front: what stands before the digits, the digits one after another, and what stands behind
-// them. Every text has its answer here under every valid format, so whatever a quick way isn't sure of is read here.
+// them. Every text has its answer here under every valid format, so whatever a fast path isn't sure of is read here.
 ghost use Rattle.std.specs.Prelude.{◌≡◌, ◌≤◌, ◌<◌, ℕ, get_or, ◌&&◌, ◌||◌, ◌==◌, Err, IfErr, IfOk, IfSome, IsNone, Ok, Some, None, is_some, length, nat_lt, true, if◌then◌else◌, ◌+◌};
 ghost use Rattle.std.specs.Option.{option_or};
 ghost use Rattle.lexical_util.specs.Ascii.{digit_zero};
@@ -360,7 +360,7 @@ pub(super) fn completion<T: Integer>(bytes: &[u8], front: Result<(T, usize)>) ->
 }
 
 // What the whole text stands for, by its digits one after another behind a head that is known. Out of line: a text whose
-// value is had at once pays for none of it.
+// value is read at once pays for none of it.
 #[inline(never)]
 pub(super) fn complete_behind<T: Integer>(
     bytes: &[u8],

@@ -3,7 +3,7 @@ ghost use Rattle.std.specs.Prelude.{◌≡◌, ◌+◌, ◌%◌, ◌<◌, ℕ};
 ghost use Rattle.std.specs.Int.{bit_at};
 ghost use Rattle.lexical_tables.specs.Looks.{bits_below};
 
-// Each mark and the one so many places below it, as one that is set where one of the two is and the other isn't.
+// `x ^ (x << n)`: bit k is set if exactly one of the bits k and k - n of x is.
 #[inline(always)]
 fn with_marks_below(marks: u64, by: u32) -> u64
     requires { by < 64 }

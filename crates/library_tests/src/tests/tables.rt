@@ -347,7 +347,7 @@ fn read_by_own(text: &[u8]) -> (Answer, [i64; 6]) {
     (answer, numbers)
 }
 
-// Short and long cells, and such as aren't had at once. Behind the first ones many bytes follow, and few behind the last.
+// Short and long cells, and such as aren't read at once. Behind the first ones many bytes follow, and few behind the last.
 #[test]
 fn a_column_of_ones_own_reads_all_cells(rt: HostRuntime) {
     let text =
