@@ -23,6 +23,9 @@ export function boundsOf(type, given) {
   if (given.min === undefined && given.max === undefined) return undefined;
   const [least, greatest] = ofTable(ENDS, "type", type);
   const { min = least, max = greatest } = { min: boundOf("min", given.min), max: boundOf("max", given.max) };
+  if (given.min > given.max) {
+    throw new RangeError(`min has to be at most max, and ${told(min)} is more than ${told(max)}`);
+  }
   return { min: min < least ? least : min, max: max > greatest ? greatest : max };
 }
 

@@ -55,7 +55,7 @@ export interface AmountOptions {
 }
 
 /** The least and the greatest number that is accepted: by default those of the type. For amounts they are
- * in units of the last place. */
+ * in units of the last place. `min` may not be greater than `max`. */
 export interface Bounds {
   min?: number | bigint;
   max?: number | bigint;
@@ -68,8 +68,8 @@ export interface Bounds {
  * `parse("-1.234,50", "i64", { places: 2, point: ",", group: "." })`.
  *
  * Throws `ParseError` if the text isn't a number of the type under the format or within the bounds,
- * `TypeError` if an argument isn't what it may be, and `RangeError` if the text has more than `LONGEST`
- * bytes. So do the calls below.
+ * `TypeError` if an argument isn't what it may be, and `RangeError` if `min` is greater than `max`, or the
+ * text has more than `LONGEST` bytes. So do the calls below.
  */
 export function parse<T extends NumberType>(
   text: Text,

@@ -53,7 +53,6 @@ test("bounds, and what is said of others", () => {
   assert.equal(within("6", "i8", -5n, 5n), "6 is not from -5 to 5");
   assert.equal(within("5", "u64", 1, 10), 5n);
   assert.equal(within("11", "u64", 1, 10n), "11 is not from 1 to 10");
-  assert.equal(within("5", "u8", 10, 1), "5 is not from 10 to 1");
   assert.equal(within("9".repeat(99), "u8", 0), `${"9".repeat(40)}.. is not from 0 to 255`);
   assert.equal(within(Buffer.from("9".repeat(99)), "u128", 1, 5), `${"9".repeat(40)}.. is not from 1 to 5`);
   assert.equal(within("0x1000000", "u32", 0, 0xffffff, formats.RUST), "0x1000000 is not from 0 to 16777215");
@@ -75,6 +74,10 @@ test("bounds, and what is said of others", () => {
   for (const bound of ["1", 1.5, NaN, Infinity, 2 ** 53, null, true]) {
     refuses(() => parse("1", "u8", { min: bound }), /^min has to be a safe integer or a bigint, and not /);
     refuses(() => parse("1", "u8", { max: bound }), /^max has to be a safe integer or a bigint, and not /);
+  }
+  for (const [min, max, more] of [[10, 1, "10 is more than 1"], [300n, 2, "300n is more than 2"]]) {
+    const crossed = { name: "RangeError", message: `min has to be at most max, and ${more}` };
+    for (const text of ["5", "x", ""]) assert.throws(() => parse(text, "u8", { min, max }), crossed);
   }
   refuses(() => parse("1", "u7", { min: 1 }), /^type has to be one of u8, .*, and not "u7"$/);
 });
