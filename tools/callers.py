@@ -79,6 +79,14 @@ def run(command: Sequence[str], env: Optional[Dict[str, str]] = None, cwd: Optio
     return said
 
 
+def on_full_device(program: str) -> None:
+    """Runs a program that has to say that its output is refused, and to end with status 1."""
+    with open("/dev/full", "wb") as full:
+        done = subprocess.run([program], stdout=full, stderr=subprocess.PIPE, text=True, timeout=60)
+    if done.returncode != 1 or "No space left on device" not in done.stderr:
+        raise Failed(f"{program} ended with {done.returncode} on a full device:\n{done.stderr}")
+
+
 def build(place: Place, compiler: str, caller: str, flags: List[str], shared: bool = False) -> str:
     """Compiles a caller, and links it with one of the libraries. Answers the program's path."""
     needs(compiler)

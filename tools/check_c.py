@@ -30,7 +30,8 @@ import check_formats  # noqa: E402
 import check_misuse  # noqa: E402
 from c_calls import DECLARED  # noqa: E402
 from callers import (C_COMPILERS, CXX17, CXX_COMPILERS, OPTIMISED, SANITIZED, TOP,  # noqa: E402
-                     Failed, Place, Skipped, Step, build, needs, needs_shared, run, source, text_of)
+                     Failed, Place, Skipped, Step, build, needs, needs_shared, on_full_device, run,
+                     source, text_of)
 from row_data import TYPES, made  # noqa: E402
 
 LIBDIR = "/usr/lib/x86_64-linux-gnu"
@@ -313,6 +314,7 @@ def cargo(place: Place) -> str:
     said = run(["cargo", "test", *alone, "--all-features"], where, crates)
     answer(run(["cargo", "run", *alone, "--example", "ten_lines"], where, crates),
            "err Overflow 19\n")
+    on_full_device(place.path("target/debug/examples/ten_lines"))
     settings = ["cargo", "run", *alone, "--example", "settings", "80", "7"]
     answer(run(settings, where, crates), "port 80, 7 percent\n")
     passed = re.findall(r"(?m)^test result: ok. ([0-9]+) passed", said)
