@@ -193,12 +193,12 @@ def by_name() -> Iterator[Case]:
 
 
 def with_bad_rows() -> Iterator[Case]:
-    """The program that skips bad rows and tells them."""
+    """The program that skips bad rows and reports them."""
     program, words = "bad_rows", ("b",)
 
     def skips(given: bytes, said: str, *told: str) -> Case:
-        return Case(program, given, f"{said}\n", 0, "\n".join(f"{program}: {it}" for it in told),
-                    words)
+        return Case(program, given, f"{said}\n", 1 if told else 0,
+                    "\n".join(f"{program}: {it}" for it in told), words)
     yield skips(b"a,b\n1,2\n,-5", "-3")
     yield skips(b"a,b\n", "0")
     yield skips(b"\xef\xbb\xbfa,\"b\"\n1,2\n\"x\ny\",7x\nc\n1,3\n", "5",

@@ -3,8 +3,8 @@
     python3 accounts.py FILE
 
 The export has a header with the names Day and Amount, `;` between cells, and either line end. A
-day, as 26.11.2026, is kept as it is, and an amount is one as -1.234,50. The first bad row is told
-by its line.
+day, as 26.11.2026, is kept as it is, and an amount is one as -1.234,50. Bad rows are skipped: their
+number and the line of the first go to standard error, and the exit status is 1.
 """
 
 import csv
@@ -43,13 +43,13 @@ def by_csv(path: str):
     return days, cents, bad
 
 
-def told(path: str) -> str:
-    """What the command says."""
+def told(path: str) -> tuple[str, int]:
+    """What the command says, and how many bad rows there are."""
     days, cents, bad = entries(path)
     if bad:
         print(f"{len(bad)} bad rows, the first: {bad[0]}", file=sys.stderr)
     span = f" from {days[0]} to {days[-1]}" if days else ""
-    return f"{len(days)} entries{span}, {Decimal(sum(cents)).scaleb(-2)} in all"
+    return f"{len(days)} entries{span}, {Decimal(sum(cents)).scaleb(-2)} in all", len(bad)
 
 
 def main() -> None:

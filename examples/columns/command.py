@@ -31,7 +31,8 @@ def write(block: bytes) -> None:
 
 def tell(path: str, answer) -> None:
     """Prints what a function answers of a file, unless it is None; or what is wrong with the file,
-    or which module isn't there, and the status is 1."""
+    or which module isn't there, and the status is 1. A pair is an answer and how many bad rows were
+    skipped for it: if any were, the status is 1 too."""
     try:
         said = answer(path)
     except jadvolni.ParseError as error:  # (which names the file)
@@ -44,6 +45,9 @@ def tell(path: str, answer) -> None:
         sys.exit(f"{path}: there is not enough memory")
     except ModuleNotFoundError as error:
         sys.exit(f"this needs {error.name}, which isn't installed")
+    said, bad_rows = said if isinstance(said, tuple) else (said, 0)
     if said is not None:
         encoding = getattr(sys.stdout, "encoding", "utf-8")  # (where it is closed, there is none)
         write(f"{said}\n".encode(encoding, "backslashreplace"))
+    if bad_rows:
+        sys.exit(1)

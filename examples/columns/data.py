@@ -3,7 +3,7 @@
     python3 data.py FILE NAME..
 
 The first line has the names, and lines end either way. Cells may stand within quotes, and those of
-other columns may be anything.
+other columns may be anything. After a bad row the exit status is 1.
 """
 
 import sys
@@ -30,11 +30,11 @@ def by_pandas(path: str, names):
     return right.astype("int64"), len(frame) - len(right)
 
 
-def told(path: str, names) -> str:
-    """What the command says."""
+def told(path: str, names) -> tuple[str, int]:
+    """What the command says, and how many bad rows there are."""
     table, bad = columns(path, names)
     sums = [f"{name} {sum(table[name].tolist())}" for name in names]
-    return ", ".join([*sums, f"{bad} bad rows"])
+    return ", ".join([*sums, f"{bad} bad rows"]), bad
 
 
 def main() -> None:

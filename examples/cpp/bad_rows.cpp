@@ -1,13 +1,15 @@
-// Adds up a column of comma-separated values by its name, and tells the rows that can't be read: bad_rows NAME < FILE
-// The file may have any size. The first row has the names. A cell may stand within quotes.
+// Adds up a column of comma-separated values by its name, and reports bad rows: bad_rows NAME < FILE
+// The file may have any size. The first row has the names. A cell may stand within quotes. After a bad row the exit
+// status is 1.
 #include "named_sum.hpp"
 #include <array>
 
 constexpr std::size_t most = 10; // the most bad rows that are shown
 
-static std::int64_t sum_of(const char *name)
+static column_sum sum_of(const char *name)
 {
     std::int64_t sum = 0;
+    std::size_t bad_rows = 0;
     std::array<jadvolni::bad_row, most> bad;
     read_named(name, [&](auto &blocks, auto &columns, auto &numbers) {
         blocks.skip_bad_rows(bad);
@@ -19,9 +21,10 @@ static std::int64_t sum_of(const char *name)
             for (std::size_t k = 0; k < block.bad_rows() && told + k < most; ++k)
                 warnx("%s", columns.named(block.fault(bad[k])).what());
         }
-        if (blocks.bad_rows()) warnx("%zu bad rows", blocks.bad_rows());
+        bad_rows = blocks.bad_rows();
     });
-    return sum;
+    if (bad_rows > 0) warnx("%zu bad rows", bad_rows);
+    return {sum, bad_rows};
 }
 
 int main(int count, char **arguments) { return print_sum("bad_rows", count, arguments, sum_of); }

@@ -2,7 +2,7 @@
 // The first row has the names. A cell may stand within quotes, and a byte order mark in front of all.
 #include "named_sum.hpp"
 
-static std::int64_t sum_of(const char *name)
+static column_sum sum_of(const char *name)
 {
     std::int64_t sum = 0;
     read_named(name, [&sum](auto &blocks, auto &columns, auto &numbers) {
@@ -12,7 +12,7 @@ static std::int64_t sum_of(const char *name)
             if (!block) errx(1, "%s", columns.named(block.fault()).what());
         }
     });
-    return sum;
+    return {sum, 0};
 }
 
 int main(int count, char **arguments) { return print_sum("named_column", count, arguments, sum_of); }

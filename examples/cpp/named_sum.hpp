@@ -38,16 +38,22 @@ void read_named(const char *name, Read read)
     read(blocks, columns, numbers);
 }
 
-// Prints the sum of the column that the command line of a program names.
-inline int print_sum(const char *program, int count, char **arguments, std::int64_t (*sum_of)(const char *name))
+// The sum of a column, and how many bad rows were skipped for it.
+struct column_sum {
+    std::int64_t sum;
+    std::size_t bad_rows;
+};
+
+// Prints the sum of the column that the command line of a program names. The status is 1 if rows were skipped.
+inline int print_sum(const char *program, int count, char **arguments, column_sum (*sum_of)(const char *name))
 try {
     if (count != 2) {
         std::fprintf(stderr, "usage: %s NAME < FILE\n", program);
         return 2;
     }
-    auto sum = sum_of(arguments[1]);
+    auto [sum, bad_rows] = sum_of(arguments[1]);
     if (std::printf("%lld\n", static_cast<long long>(sum)) < 0 || std::fflush(stdout) != 0) err(2, "standard output");
-    return 0;
+    return bad_rows > 0;
 } catch (const std::bad_alloc &refused) {
     errx(2, "%s", refused.what());
 }

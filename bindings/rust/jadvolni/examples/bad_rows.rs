@@ -1,6 +1,7 @@
-//! Adds up a column by its name, and tells the rows that can't be read: bad_rows NAME < FILE
+//! Adds up a column by its name, and reports bad rows: bad_rows NAME < FILE
 //!
-//! The file may have any size. Cells stand between commas, maybe within quotes, and the first row has the names.
+//! The file may have any size. Cells stand between commas, maybe within quotes, and the first row has the names. After
+//! a bad row the exit status is 1.
 
 use jadvolni::{Dialect, TableColumn, TableReader};
 use std::error::Error;
@@ -10,13 +11,13 @@ use std::process::ExitCode;
 /// At most this many bad rows are shown.
 const MOST: usize = 10;
 
-/// Tells the sum of the numbers to one writer, and the first bad rows with their count to another.
+/// Writes the sum of the numbers to one writer, and the first bad rows with their count to another. Returns the count.
 pub fn run(
     name: &str,
     input: impl Read,
     mut output: impl Write,
     mut told: impl Write,
-) -> Result<(), Box<dyn Error>> {
+) -> Result<usize, Box<dyn Error>> {
     let mut rows = TableReader::new(input, Dialect::separated_by(b',').has_quotes(true));
     let header = rows.header()?;
     let (mut numbers, mut sum, mut faults) = ([0i64; 1000], 0i128, vec![]);
@@ -38,7 +39,8 @@ pub fn run(
     if rows.bad_rows() > 0 {
         writeln!(told, "{} bad rows", rows.bad_rows())?;
     }
-    Ok(writeln!(output, "{sum}")?)
+    writeln!(output, "{sum}")?;
+    Ok(rows.bad_rows())
 }
 
 fn main() -> ExitCode {
@@ -48,7 +50,8 @@ fn main() -> ExitCode {
         return ExitCode::from(2);
     };
     match run(&name.to_string_lossy(), io::stdin(), io::stdout(), io::stderr()) {
-        Ok(()) => ExitCode::SUCCESS,
+        Ok(0) => ExitCode::SUCCESS,
+        Ok(_) => ExitCode::FAILURE,
         Err(error) => {
             eprintln!("{error}");
             ExitCode::FAILURE
