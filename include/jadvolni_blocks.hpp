@@ -144,6 +144,8 @@ private:
 //         for (std::size_t k = 0; k < std::min(block.bad_rows(), bad.size()); ++k)
 //             std::cerr << block.fault(bad[k]).what() << '\n';
 //     }
+//
+// It can be moved between two loops, but not copied: both would read into the same bytes.
 template <class Read>
 class table_blocks {
 public:
@@ -185,6 +187,11 @@ public:
           capacity_(capacity), ends_(how)
     {
     }
+
+    table_blocks(const table_blocks &) = delete;
+    table_blocks &operator=(const table_blocks &) = delete;
+    table_blocks(table_blocks &&) = default;
+    table_blocks &operator=(table_blocks &&) = default;
 
     // Sets the columns of the blocks from here on.
     template <class Columns>

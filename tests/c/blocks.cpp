@@ -90,6 +90,21 @@ static void at_once()
     CHECK(block == blocks.end());
 }
 
+// Blocks that are moved between two loops go on where the first one stopped.
+static void moved()
+{
+    std::size_t calls = 0;
+    std::vector<char> bytes(8);
+    int numbers[1] = {};
+    jadvolni::table_column columns[] = {{}, jadvolni::column_into(numbers)};
+    jadvolni::table_blocks blocks(source{"a,1\nb,2\nc,3\n", 3, &calls, false}, bytes, commas(false), 1, columns);
+    CHECK(blocks.begin()->rows() == 1 && numbers[0] == 1);
+    auto others = std::move(blocks);
+    CHECK(others.begin()->rows() == 1 && numbers[0] == 2);
+    blocks = std::move(others);
+    CHECK(blocks.begin()->rows() == 1 && numbers[0] == 3 && blocks.begin() == blocks.end());
+}
+
 static void open_quotes()
 {
     auto is_open = [](std::string_view text, std::size_t size, std::size_t place) {
@@ -280,6 +295,7 @@ int main()
 {
     byte_by_byte();
     at_once();
+    moved();
     open_quotes();
     refused_columns();
     headers();

@@ -34,6 +34,10 @@ void misuse()
     jadvolni::cell_text texts[2]{};
     (void)jadvolni::column_into(texts), (void)jadvolni::column_into(values, jadvolni::fixed{});
     (void)jadvolni::parse_column("1,2", ',', values), (void)jadvolni::parse<char>("1");
+    std::vector<char> bytes(9);
+    jadvolni::table_blocks blocks([](char *, std::size_t) { return 0; }, bytes, {}, 1);
+    auto moved = std::move(blocks);
+    (void)moved;
 #elif MISUSE == 1 /* both: have to outlive the column */
     (void)jadvolni::column_into(std::vector<int>(2));
 #elif MISUSE == 2 /* both: may be written */
@@ -58,5 +62,10 @@ void misuse()
     (void)jadvolni::column_into(std::vector<int>(2), jadvolni::fixed{});
 #elif MISUSE == 12 /* both: may be written */
     (void)jadvolni::column_into(constant, jadvolni::fixed{});
+#elif MISUSE == 13 /* both: deleted */
+    std::vector<char> bytes(9);
+    jadvolni::table_blocks blocks([](char *, std::size_t) { return 0; }, bytes, {}, 1);
+    auto copy = blocks;
+    (void)copy;
 #endif
 }
