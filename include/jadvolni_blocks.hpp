@@ -82,7 +82,7 @@ public:
         return fault.behind(text_.rows, text_.lines, text_.before);
     }
 
-    // The same for a bad row of the block.
+    // Where and what the fault of a bad row of the block is.
     table_fault fault(bad_row bad) const noexcept
     {
         bad.row -= text_.rows;

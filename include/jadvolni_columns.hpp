@@ -105,7 +105,7 @@ public:
         return rows.moved(place_);
     }
 
-    // The same, but bad rows are skipped: each is described in `bad`, as long as there is room.
+    // Reads the rows after the header, and skips bad ones: each is described in `bad`, as long as there is room.
     template <class Bad>
     [[nodiscard]] skipping_result read_skipping(std::string_view text, std::size_t capacity, Bad &&bad) noexcept
     {

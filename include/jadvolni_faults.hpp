@@ -164,7 +164,7 @@ public:
     {
     }
 
-    // The same if it is known where the row starts.
+    // The fault of a result, if it is known where its row starts.
     table_fault(const table_result &read, std::size_t row_start, std::string_view text, const table &how) noexcept
         : outcome(read), message_(read.message()), row_(read.rows()), column_(read.column())
     {

@@ -77,7 +77,7 @@ template <class Values>
     return column_into(std::data(values), std::size(values), under);
 }
 
-// The same for fixed-point numbers.
+// A column of fixed-point numbers that is stored so.
 template <class Values>
 [[nodiscard]] auto column_into(Values &&values, const fixed &under) noexcept
     -> decltype(column_into(std::data(values), std::size(values), under))
@@ -86,7 +86,7 @@ template <class Values>
     return column_into(std::data(values), std::size(values), under);
 }
 
-// The same for texts.
+// A column of texts that is stored so.
 template <class Texts>
 [[nodiscard]] auto column_into(Texts &&texts) noexcept
     -> decltype(detail::column_of_texts(std::data(texts), std::size(texts)))
@@ -103,8 +103,8 @@ template <class Texts>
     return is_there ? text.substr(cell.start, cell.size) : std::string_view();
 }
 
-// The same with each doubled quote as one. If there are none, the result is that of text_of; otherwise it is written to
-// the beginning of `room`, where as many bytes as the text has are enough. If there are too few, the result is
+// A cell's text with each doubled quote as one. If there are none, the result is that of text_of; otherwise it is written
+// to the beginning of `room`, where as many bytes as the text has are enough. If there are too few, the result is
 // std::nullopt, and nothing is written. The `folded` of jadvolni_columns.hpp makes a std::string.
 template <class Room>
 [[nodiscard]] std::optional<std::string_view> fold_into(std::string_view text, const cell_text &cell,

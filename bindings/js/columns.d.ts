@@ -58,7 +58,7 @@ export function parseColumn<T extends keyof Columns>(
   options: ColumnOptions & { may_miss?: false },
 ): Columns[T];
 
-/** The same for numbers of which some may be missing. */
+/** Returns the numbers of a text's fields, of which some may be missing. */
 export function parseColumn<T extends keyof Columns>(
   text: Text,
   type: T,

@@ -120,13 +120,14 @@ export function rowsBeforeFault(size, isLast, { rows, count }) {
   return { count: row, place, badCount: 1, bad: [{ status, row, column, place, start: answer[2], stop: answer[4] }] };
 }
 
-/** What is known of a bad row that a call has told. */
+/** What is known of a bad row that a call has reported. */
 function badRowAt(words, index) {
   const [status, , , , , , row, , column, , place, , start, , stop] = words.subarray(WORDS_OF_BAD_ROW * index);
   return { status, row, column, place, start, stop };
 }
 
-/** The same of the right rows, and of the bad ones, as far as there is room. */
+/** Reads the right rows: how many there are, where reading stopped, and what is known of bad ones, as far as there is
+ * room. */
 export function rightRows(size, isLast, { rows, badRows, count }) {
   const bad = badRows.length / WORDS_OF_BAD_ROW;
   callSkipping(ANSWER, TEXT, BigInt(size), isLast, TABLE, BigInt(rows), COLUMNS, count,

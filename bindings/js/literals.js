@@ -53,7 +53,7 @@ function isSame(suffixes, entries) {
     entries.every(([suffix, type], index) => names[index] === suffix && suffixes[suffix] === type);
 }
 
-/** The same, which is made once for an object that doesn't change. */
+/** The table of suffixes for an object, which is made once for one that doesn't change. */
 function tableFor(suffixes) {
   const known = tables.get(suffixes);
   if (known !== undefined && isSame(suffixes, known.entries)) return known;

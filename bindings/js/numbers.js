@@ -33,7 +33,7 @@ function callOf(name) {
   };
 }
 
-/** The same for an amount, whose description stands where a format does. */
+/** A call of the library over an amount, whose description stands where a format does: where it stops. */
 function callOfAmount(name) {
   const call = memory.named(`jadvolni_parse_${name}`);
   return (text, amount) => {

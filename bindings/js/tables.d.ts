@@ -46,7 +46,7 @@ export interface TextColumn extends Iterable<string | null> {
   /** The text of a row, or, if that is negative, of a row counted from the end; null if it is missing, and
    * undefined if there is no such row. Bytes that the encoding doesn't have become U+FFFD. */
   at(row: number): string | null | undefined;
-  /** The same as a copy of its bytes. */
+  /** A copy of the bytes of a row's text. */
   bytesAt(row: number): Uint8Array | null | undefined;
 }
 

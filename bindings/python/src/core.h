@@ -192,7 +192,7 @@ size_t count_of(const char *text, size_t len, char byte);
 /* Puts bits behind those that there are at a place. All others stay as they are. */
 void put_bits(uint8_t *to, size_t at, const uint8_t *from, size_t count);
 
-/* The same by _move_bits(to, at, from, count). */
+/* put_bits, as _move_bits(to, at, from, count). */
 PyObject *move_bits(PyObject *module, PyObject *args);
 
 /* How many bytes a text has: _text_size(text). */

@@ -131,7 +131,7 @@ fn read_three<'a>(
     Ok(Some(read(text, how, rows, &mut targets)))
 }
 
-// The same, where the middle column isn't read, and numbers of the last may be missing.
+// What is answered of such a table, where the middle column isn't read, and numbers of the last may be missing.
 #[inline(always)]
 fn read_two<'a>(
     alloc: Global,
@@ -161,7 +161,7 @@ fn read_two<'a>(
     Ok(Some(read(text, how, rows, &mut targets)))
 }
 
-// The same, where no column is read: those behind the last target aren't.
+// What is answered of a table of which no column is read: those behind the last target aren't.
 #[inline(always)]
 fn read_none(alloc: Global, text: &[u8], how: &How) -> Result<Table, TableError> {
     let mut targets: Vec<Option<Target<'_>>> = Vec::new(alloc);
@@ -214,7 +214,7 @@ impl Call<i64> for OneColumn {
     }
 }
 
-/// The same of three columns.
+/// The call for three columns.
 #[derive(Drop)]
 pub struct ThreeColumns {
     pub place: Place,
@@ -239,7 +239,7 @@ impl Call<i64> for ThreeColumns {
     }
 }
 
-/// The same, where the middle column isn't read, and numbers of the last may be missing.
+/// The call for three columns of which the middle one isn't read, and numbers of the last may be missing.
 #[derive(Drop)]
 pub struct TwoOfThree {
     pub place: Place,
@@ -264,7 +264,7 @@ impl Call<i64> for TwoOfThree {
     }
 }
 
-/// The same, where no column is read.
+/// The call for three columns of which none is read.
 #[derive(Drop)]
 pub struct NoneOfThree {
     pub alloc: Global,

@@ -217,7 +217,7 @@ impl FormatFields {
         asks_for_x(*self) && self.literal_prefixes == 0 && self.literal_octal_zero == 0
     }
 
-    // The same kind of any format: by its rules. A function of its own, so that the one before it needs no stack.
+    // The kind of any format, by its rules. A function of its own, so that its callers need no stack.
     #[inline(never)]
     fn any_kind(&self) -> FormatKind
         ensures { result ≡ kind_of (format_of self.now) }
@@ -225,7 +225,7 @@ impl FormatFields {
         self.builder().build_unchecked().kind()
     }
 
-    // The same kind, out of line: it is found before the format is made, which needs the registers.
+    // The kind of the format, out of line: it is found before the format is made, which needs the registers.
     #[inline(never)]
     fn kind_first(&self) -> FormatKind
         ensures { result ≡ kind_of (format_of self.now) }
@@ -301,7 +301,7 @@ impl FormatFields {
         self.builder().build_of_kind(self.valid_kind())
     }
 
-    /// The same of fields that [`FormatFields::is_plain_decimal`] takes.
+    /// The format of fields that [`FormatFields::is_plain_decimal`] takes.
     #[inline(always)]
     pub(crate) fn decimal_format(&self) -> NumberFormat
         requires { kind_of (format_of self.now) ≡ Decimal }

@@ -72,7 +72,7 @@ pub(crate) fn append_part<T: Integer>(
     value.checked_mul_add(scale_for::<T>(count), part, is_negative)
 }
 
-// The same for a number of few digits.
+// The number with few digits behind it, which write another, where the type has that.
 #[inline(always)]
 pub(crate) fn append_number<T: Integer>(
     value: T,

@@ -79,7 +79,7 @@ impl FixedFormat {
         self.first_fault()
     }
 
-    // The same by the rules, one after the other.
+    // The first rule that the description breaks: by the rules, one after the other.
     #[inline(never)]
     fn first_fault(&self) -> Option<FixedFormatError>
         ensures { result ≡ fixed_fault self.now }

@@ -127,7 +127,7 @@ fn read_each_digit<T: Integer>(
     Ok(value)
 }
 
-// The same at once where all digits fit.
+// The number with digits behind it, or the fault of the first one that takes it out of the type: at once, where all fit.
 #[inline(always)]
 pub(crate) fn read_digits<T: Integer>(
     number: T,

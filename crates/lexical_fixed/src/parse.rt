@@ -243,7 +243,7 @@ pub fn complete_if_not_short<T: Integer>(text: &[u8], format: &FixedFormat) -> R
     }
 }
 
-// The same out of line, so that a short text pays for none of it.
+// The number of such a text, out of line, so that a short text pays for none of it.
 #[inline(never)]
 fn read_not_short<T: Integer>(text: &[u8], format: &FixedFormat) -> Result<T>
     requires valid { IsNone (fixed_fault format.now) }

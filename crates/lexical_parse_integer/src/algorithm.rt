@@ -194,7 +194,7 @@ fn partial_out_of_line<T: Integer>(bytes: &[u8], format: &NumberFormat) -> Resul
     partial_from_front::<T>(bytes, format)
 }
 
-// The same, by a function that clears the room for its `Result` itself: a number in front then pays for none.
+// The partial answer, by a function that clears the room for its `Result` itself: a number in front then pays for none.
 #[inline(always)]
 fn valid_front<T: Integer>(bytes: &[u8], format: &NumberFormat) -> Result<(T, usize)>
     requires valid { IsNone (fault format.now) }
@@ -214,7 +214,8 @@ fn standard_front<T: Integer>(bytes: &[u8]) -> Result<(T, usize)>
     partial_from_front::<T>(bytes, &format::STANDARD)
 }
 
-// The same, by a function that clears the room for its `Result` itself: a number in front then pays for none.
+// The partial answer under the standard format, by a function that clears the room for its `Result` itself: a number in
+// front then pays for none.
 #[inline(always)]
 pub(crate) fn standard_partial<T: Integer>(bytes: &[u8]) -> Result<(T, usize)>
     ensures { view_of (with_place T.number) result ≡ partial standard T.TYPE bytes.now }

@@ -85,7 +85,7 @@ fn is_stepped_over(byte: u8, separator: u8, is_within: bool) -> bool
     is_within || byte != separator
 }
 
-// The same length, byte by byte.
+// The length of the cell that the text begins with, of which the first `passed` bytes are known: byte by byte.
 #[inline(always)]
 fn length_by_bytes(text: &[u8], separator: u8, passed: usize, was_within: bool) -> usize
     requires passed { IsPassed separator text.now passed was_within }

@@ -21,12 +21,12 @@ pub enum TableReadError {
         rows: usize,
         /// What is wrong, and where.
         error: TableError,
-        /// The same with its line, row and cell in the text, and with the column's name, if the header was read.
+        /// What is wrong, with its line, row and cell in the text, and with the column's name, if the header was read.
         fault: Box<TableFault>,
     },
     /// The row that starts at this place has more bytes than a block. No row follows.
     LongRow(usize),
-    /// The same, if a quote isn't closed in the block. No row follows.
+    /// A row has more bytes than a block, and a quote in it isn't closed. No row follows.
     OpenQuote {
         /// The place where the row starts.
         row_start: usize,

@@ -25,7 +25,7 @@ fn partial_if_valid<T: Integer>(bytes: &[u8], format: &NumberFormat) -> Result<(
     }
 }
 
-// The same, by a function that clears the room for its `Result` itself: a number in front then pays for none.
+// The partial answer, by a function that clears the room for its `Result` itself: a number in front then pays for none.
 #[inline(always)]
 fn front_if_valid<T: Integer>(bytes: &[u8], format: &NumberFormat) -> Result<(T, usize)>
     ensures { view_of (with_place T.number) result ≡ partial_if_valid format.now T.TYPE bytes.now }

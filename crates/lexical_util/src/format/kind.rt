@@ -10,7 +10,7 @@ use super::content::Fields;
 pub enum FormatKind {
     /// A valid format of radix 10, without punctuation: digits behind an optional sign.
     Decimal,
-    /// The same of another radix.
+    /// A valid format of another radix, without punctuation.
     Plain,
     /// Every other valid format: it has a separator, a prefix or a suffix, or requires a sign.
     Other,
