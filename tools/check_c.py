@@ -235,7 +235,7 @@ def uninstall(place: Place) -> str:
 
 
 def by_pkg_config(place: Place, compiler: str, caller: str, words: List[str], wanted: str) -> str:
-    """An example, with the flags that pkg-config tells."""
+    """An example, with the flags that pkg-config prints."""
     needs(compiler, "pkg-config")
     needs_shared(place)
     below = place.path("installed")

@@ -53,7 +53,7 @@ def adds_up(program: str, front: bytes = b"", words: Words = ()) -> Iterator[Cas
 
 
 def faults(program: str, told: Dict[bytes, str], words: Words = ()) -> Iterator[Case]:
-    """Inputs, each with what the program tells of it."""
+    """Inputs, each with what the program reports of it."""
     for given, fault in told.items():
         yield Case(program, given, "", 1, f"{program}: {fault}", words)
 
@@ -264,7 +264,7 @@ CASES = [*of_columns(), *of_exports(), *by_name(), *with_bad_rows(), *of_words()
 
 
 def check(place: Place, case: Case, program: str) -> None:
-    """Runs a case. What a sanitizer says is told too, and fails it."""
+    """Runs a case. What a sanitizer says counts too, and fails it."""
     limit = f"ulimit -v {case.memory} && " if case.memory else ""
     command = ["sh", "-c", f'{limit}exec "$@" {case.redirected}', "sh", program, *case.words]
     done = subprocess.run(command, input=case.given, stdout=subprocess.PIPE,

@@ -29,7 +29,7 @@ def said_of(place: Place, compiler: str, file: str, misuse: str, how: list[str])
 
 
 def misuses(place: Place, compiler: str) -> str:
-    """A compiler tells each misuse, and nothing else."""
+    """A compiler reports each misuse, and nothing else."""
     needs(compiler)
     asked = [(file, "0", how, wanted) for file, how, wanted in OLD]
     for file, how in FILES.items():

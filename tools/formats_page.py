@@ -25,7 +25,7 @@ def setter(name: str, value: int) -> str:
 
 
 def told(group: Group, word: str) -> list[str]:
-    """What the data tell of a language under a word, without the pattern."""
+    """What the data say of a language under a word, without the pattern."""
     texts = [text for kind, text in group.told if kind == word]
     return [text.split(" | ", 1)[1] for text in texts] if word in HEADINGS else texts
 

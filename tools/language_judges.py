@@ -174,7 +174,7 @@ class Interpreter:
 @dataclass
 class Toplevel:
     """A toplevel: a phrase on each line, and those that are read print their place and value. What
-    is known tells whether it is the version that is wanted."""
+    is known says whether it is the version that is wanted."""
 
     command: list[str]
     before: str

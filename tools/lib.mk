@@ -34,7 +34,7 @@ symbols: build/libjadvolni.a ## writes packaging/symbols.txt, the calls that the
 	@$(call EXPORTED,$<) > build/symbols.txt
 	@mv build/symbols.txt packaging/symbols.txt
 
-# The versions of the calls, as linkers read them: a program that needs a later library is told so as it starts.
+# The versions of the calls, as linkers read them: a program that needs a later library is refused as it starts.
 build/symbols.map: build/libjadvolni.a packaging/symbols.txt
 	@$(call EXPORTED,$<) | diff packaging/symbols.txt - || \
 	    { echo "packaging/symbols.txt isn't what the library exports: make symbols writes it anew" >&2; exit 1; }

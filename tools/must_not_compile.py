@@ -71,7 +71,7 @@ def check(folder: str, text: str) -> tuple[int, str]:
 
 
 def is_refused(said: str, text: str, error: str) -> bool:
-    """Whether the error is told at the line that ends in `// here`."""
+    """Whether the error is reported at the line that ends in `// here`."""
     lines = text.split("\n")
     line = next(number for number, it in enumerate(lines, 1) if it.endswith("// here"))
     places = re.findall(rf"(?m)^(?:note: )?src/lib\.rt:{line}:\d+: (.*)", said)

@@ -22,7 +22,7 @@ BUILT = [os.path.join(TOP, "crates", "lexint", "out", name)
 FLAGS = {it.word: it.name for it in fields_of(TOP) if it.kind == "flag"}
 BYTES = {it.word: it.name for it in fields_of(TOP) if it.kind == "punctuation"}
 HEADING = re.compile(r"(={2,3}) (\w+): (.+)")
-# what a line of tools/languages.txt tells a user, before the rows of its language
+# what a line of tools/languages.txt says to a user, before the rows of its language
 TOLD = re.compile(r"(reference|rule|suffixes|more|less|otherwise) \| (.+)")
 # The fewest texts of a language that are read, and that are refused.
 FEWEST = 4

@@ -5,7 +5,7 @@ import { FormatError } from "./errors.js";
 import { bytesOfFormat, Format, STANDARD } from "./format.js";
 import { FORMAT, named, putFormat } from "./memory.js";
 
-/** What is told of amounts by its name, beside the format of their integer part. */
+/** What is said of amounts by its name, beside the format of their integer part. */
 export const AMOUNT_FIELDS = ["places", "point", "group", "takes_fewer"];
 
 const faultOf = named("jadvolni_fixed_error");

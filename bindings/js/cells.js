@@ -1,4 +1,4 @@
-// The cells of a row: for the names of a header, and for what a fault tells of its cell.
+// The cells of a row: for the names of a header, and for what a fault says of its cell.
 
 import { ANSWER, answer, putTableAlone, TABLE } from "./layout.js";
 import * as memory from "./memory.js";

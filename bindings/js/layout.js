@@ -10,7 +10,7 @@ const callSkipping = memory.named("jadvolni_parse_table_skipping");
 const rowPlace = memory.named("jadvolni_row_place");
 
 // What a call is given and gives, behind the text: its answer, a table, its columns, the bytes that
-// stand for a missing number, the widths of cells, what is told of bad rows, and the columns' arrays.
+// stand for a missing number, the widths of cells, what is reported of bad rows, and the columns' arrays.
 // A column is its format; two words on amounts; for each type the address of an array and its room;
 // those of where its texts stand; and those of its bits, which say where there is something.
 const tablePlace = numbersPlace + 48;
@@ -22,7 +22,7 @@ export const TYPES = ["i64", "u64", "i32", "u32", "i16", "u16", "i8", "u8", "tex
 export const FLAGS = [
   "has_returns", "has_quotes", "allows_blanks", "skips_empty_rows", "is_records", "allows_returns",
 ];
-// What is told of a bad row, as words of 32 bits.
+// What is known of a bad row, as words of 32 bits.
 const WORDS_OF_BAD_ROW = 16;
 
 export const ANSWER = BigInt(numbersPlace);

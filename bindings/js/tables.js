@@ -54,7 +54,7 @@ export function parseTable(text, columns, table = {}) {
   return answerOf(bytes, stop, reads, how, names);
 }
 
-// Small tables, and what is told of each where the module finds all where it is put.
+// Small tables, and what is known of each where the module finds all where it is put.
 const TYPES_OF_NUMBERS = TYPES.slice(0, -1);
 const KNOWN = [
   ["1234", ["u8", "u8"], { widths: [1, 1], is_records: true }, [[1, 3], [2, 4]]],

@@ -17,7 +17,7 @@ def ask(holds: bool, page: str) -> None:
 
 
 def write(block: bytes) -> None:
-    """Writes a block to standard output. Where that is refused, it is told, and the status is 1."""
+    """Writes a block to standard output. Where that is refused, it is said, and the status is 1."""
     if sys.stdout is None:
         sys.exit("standard output is closed")
     try:

@@ -1,4 +1,4 @@
-"""Adds up a ledger of any size, a line `NAME AMOUNT` for each entry, or tells its first wrong cell.
+"""Adds up a ledger of any size, a line `NAME AMOUNT` for each entry, or reports the first bad cell.
 
     python3 ledger.py FILE
 

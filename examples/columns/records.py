@@ -1,4 +1,4 @@
-"""Adds up the cents of a file of records, or tells its first wrong cell.
+"""Adds up the cents of a file of records, or reports its first wrong cell.
 
     python3 records.py FILE
 

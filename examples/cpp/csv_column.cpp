@@ -30,7 +30,7 @@ static block read_part(std::string_view part, const jadvolni::table &how, std::s
     return {std::move(numbers), answer};
 }
 
-// The sum of all numbers that were read. Where it leaves the type, the row is told.
+// The sum of all numbers that were read. Where it leaves the type, the row is reported.
 static std::int64_t sum_of(const std::vector<block> &blocks)
 {
     std::int64_t sum = 0;

@@ -59,7 +59,7 @@ static void faults_of_fields(void)
     EXPECT("1,-02", ',', json, JADVOLNI_INVALID_LEADING_ZEROS, 3, 1, 1, 77);
 }
 
-/* An invalid format is told before all else, also of an empty text and of no room, and nothing is read. */
+/* An invalid format is reported before all else, also of an empty text and of no room, and nothing is read. */
 static void expect_invalid(const jadvolni_format *format, uint32_t status)
 {
     size_t count = 9;

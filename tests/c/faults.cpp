@@ -1,4 +1,4 @@
-// What a text tells of a fault of its table, in C++: of each kind, with hostile cells, by names, and in words.
+// What is reported of a fault of a table, in C++: of each kind, with hostile cells, by names, and in words.
 #include "jadvolni_columns.hpp"
 #include "check.h"
 #include "tables.hpp"
@@ -101,7 +101,7 @@ static void widths()
     CHECK(fault.line() == 1 && fault.row_start() == 6 && fault.row_stop() == 12);
 }
 
-// What has no place: no line and no row is told.
+// What has no place: no line and no row is reported.
 static void refused()
 {
     auto records = commas();
@@ -120,7 +120,7 @@ static void refused()
     CHECK(!std::strcmp(fault.named("b").what(), "\"b\": the radix has to be 2 to 36"));
 }
 
-// A fault is told of the text that is handed over, whatever that is.
+// A fault is reported of the text that is handed over, whatever that is.
 static void another_text()
 {
     const std::size_t most = SIZE_MAX;

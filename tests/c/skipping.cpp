@@ -146,7 +146,7 @@ static void troubles()
     read = in_blocks({"x\n1,a\n2,\"\nx\nx\nx\nx\n", 3, nullptr}, 8, with_flags(2), 4, 4);
     CHECK(read.rows == std::vector<int>{1} && read.bad_rows == 1);
     CHECK(read.end == "line 3: a row has no room: a quote isn't closed");
-    // What ends reading where nothing is skipped is told as exactly.
+    // What ends reading where nothing is skipped is reported as exactly.
     std::string_view text = "1,a\n2,\"\n\"\n3,c\nx,d\n";
     for (std::size_t step : {1u, 5u, 99u}) {
         std::vector<char> bytes(9);
@@ -163,7 +163,7 @@ static void troubles()
         }
         CHECK(said == "line 5, column 1: \"x\": invalid digit at byte 0 of the cell");
     }
-    // A bad row of no block is told of none.
+    // A bad row that no block has is reported for none.
     const bad_row foreign{JADVOLNI_OVERFLOW, {0}, 7, 8, 9, 10, 11};
     const jadvolni::table_block none(jadvolni::table_result({}), 0, 0, nullptr);
     const auto fault = none.fault(foreign);

@@ -172,7 +172,7 @@ static void room()
     CHECK(jadvolni::parse_table("a;bc", bank(), 1, apart).rows() == 1 && is(texts[0], 0, 1) && is(texts[1], 2, 2));
 }
 
-// What is told of a fault, and that all behind it is as it was.
+// What is known of a fault, and that all behind it is as it was.
 static bool refused(std::string_view text, const jadvolni::fixed &under, status wanted, std::size_t place,
                     std::size_t rows, std::size_t texts_read)
 {
@@ -285,7 +285,7 @@ static void blocks()
     CHECK(in_blocks("what;cents\nab;1,00\nc;x\n", 64, 9, 99)
           == "ab 100|line 3, column 2: \"x\": invalid digit at byte 0 of the cell|");
 
-    // Before a fault they stand in the block that tells it.
+    // Before a fault they stand in the block that reports it.
     cell_text texts[9]{};
     int numbers[9] = {};
     std::string bytes(16, 0);

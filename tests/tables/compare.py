@@ -136,7 +136,7 @@ def with_numbers(said: bytearray, question: Question, numbers: reading.Numbers) 
 
 
 def bad_rows(question: Question, bad: Sequence[Bad]) -> bytes:
-    """What is told of bad rows, and where the first rows are."""
+    """What is reported of bad rows, and where the first rows are."""
     room = question.bad_room or 0
     said = struct.pack("=Q", len(bad))
     for row in bad[:room]:

@@ -107,7 +107,7 @@ static PyObject *shown_bound(PyObject *bound, const notation *written)
     return shown;
 }
 
-/* The front of a text, in which bytes that aren't printable ASCII are told by their numbers. */
+/* The front of a text, in which bytes that aren't printable ASCII are shown by their numbers. */
 static PyObject *shown_front(const borrowed_text *text)
 {
     enum { MOST = 40 }; /* at most this many bytes are shown */
@@ -154,7 +154,7 @@ static int is_beyond(uint32_t status)
 }
 
 /* What else is wrong with a text than that its type, which answers so, lacks its number; JADVOLNI_OK where
- * that is all. The widest type with a sign tells, in which "-5" and "70000" are numbers. */
+ * that is all. The widest type with a sign decides, in which "-5" and "70000" are numbers. */
 static jadvolni_result fault_beside_bounds(const borrowed_text *text, const notation *written,
                                            jadvolni_result answer)
 {

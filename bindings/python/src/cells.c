@@ -1,5 +1,5 @@
 /*
- * cells.c - the cells of a row, and what is told of bad rows: where they are, and the first bytes of their
+ * cells.c - the cells of a row, and what is reported of bad rows: where they are, and the first bytes of their
  * wrong cells.
  */
 #include "core.h"

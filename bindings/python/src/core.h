@@ -169,7 +169,7 @@ PyObject *number_within(const core_state *state, const borrowed_text *text, cons
  * numbers, bits or None, type or Fixed, format, and None; rows go there from `at` on. Or it is one of
  * texts: the numbers then are how many bytes each has, and the last is a bytearray, which gets these bytes.
  * It gives how many rows were read, how many bytes they had, how many bad rows were skipped, and the faults
- * that are told. Where `bad` is -1, the first bad row ends the reading, and is told. Else they are skipped:
+ * that are reported. Where `bad` is -1, the first bad row ends the reading, and is reported. Else they are skipped:
  * 0 reports none; otherwise all are, since reading stops after that number. */
 PyObject *parse_table(PyObject *module, PyObject *const *args, Py_ssize_t count);
 

@@ -1,5 +1,5 @@
 /*
- * faults.c - the exceptions that tell what is wrong with a text or a format.
+ * faults.c - the exceptions that say what is wrong with a text or a format.
  */
 #include "core.h"
 

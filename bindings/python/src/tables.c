@@ -200,7 +200,7 @@ static int join(const columns *all, const borrowed_text *part, size_t rows)
 }
 
 /* What a call is asked: the part of a text from one place to another, how the table is written, and how many
- * bad rows it tells, or -1 where the first one ends the reading. */
+ * bad rows it reports, or -1 where the first one ends the reading. */
 typedef struct question {
     borrowed_text text;
     borrowed_text part;

@@ -60,7 +60,7 @@ def rows_of(text, given):
 
 
 def one_by_one(text, columns, before=(0, 0), **given):
-    """The columns of a text whose rows are read each alone, and what its bad rows tell."""
+    """The columns of a text whose rows are read each alone, and what its bad rows report."""
     parts, bad = [], []
     for number, (start, stop) in enumerate(rows_of(text, given)):
         try:
@@ -88,7 +88,7 @@ def joined(parts):
 
 
 class Skipping(unittest.TestCase):
-    """Right rows stand one behind another, and bad ones are told."""
+    """Right rows stand one behind another, and bad ones are reported."""
 
     def ways(self, text, columns, header=False, **given):
         """Ways to read a text: each as what gives the tables, with its list of errors."""

@@ -81,7 +81,7 @@ class Bounds(unittest.TestCase):
         self.fails(" is not from 1 to 255", (1, 255), "", "u8", empty, min=1)
 
     def test_other_faults(self):
-        """What isn't a number is told as without bounds, also where its front leaves them."""
+        """What isn't a number is reported as without bounds, also where its front leaves them."""
         for text, kind, given in (("", "u8", {"min": 1}), ("x", "u8", {"max": 1}),
                                   ("+1", "u8", {"max": 1}), ("01", "u8", {"max": 1}),
                                   ("-x", "u8", {"max": 1}), ("-0", "u8", {"max": 1}),

@@ -32,7 +32,7 @@ def answer_of(name, path, *words, **settings):
 
 
 def line_of(told):
-    """The line that tells a fault, where a byte is one of a cell."""
+    """The line that reports a fault, where a byte is one of a cell."""
     return f"{told} of the cell\n" if '": ' in told else f"{told}\n"
 
 

@@ -1,4 +1,4 @@
-"""Tests of what an error of a table tells: where it is, which cell, and what its message says."""
+"""Tests of what an error of a table says: where it is, which cell, and what its message says."""
 
 import copy
 import io

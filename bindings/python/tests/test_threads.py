@@ -36,7 +36,7 @@ def lists(table):
 
 
 def fault_of(error):
-    """All that an error tells, with its message behind the name of a file."""
+    """All that an error says, with its message behind the name of a file."""
     said = re.search("(line|row) .*", str(error))[0]
     return (error.kind, error.row, error.column, error.place, error.line, error.name,
             error.row_start, error.row_stop, error.text, said)
@@ -320,7 +320,7 @@ class Threads(unittest.TestCase):
                 parse_table(b"1\n" * 20, {"a": "u8"}, threads=4)
 
     def test_a_text_that_changes_meanwhile(self):
-        """A fault is told as a thread has found it."""
+        """A fault is reported as a thread has found it."""
         text = bytearray(b"1\n" * 9 + b"x\n" + b"1\n" * 9)
         parse = jadvolni._core._parse_table
 

@@ -42,7 +42,7 @@ fn folder() -> PathBuf {
     }
 }
 
-/// The folder of the library, as pkg-config tells it.
+/// The folder of the library, as pkg-config prints it.
 fn by_pkg_config() -> PathBuf {
     let answer = Command::new("pkg-config")
         .args(["--variable=libdir", "jadvolni"])

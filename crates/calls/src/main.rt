@@ -25,7 +25,7 @@ use std::alloc::{AllocError, Global};
 use std::io::{Read, Result, Write};
 use std::process::ExitCode;
 
-/// Answers each case of standard input. What can't be read or written, and memory that is refused, is told by status 2.
+/// Answers each case of standard input. What can't be read or written, and memory that is refused, is reported by status 2.
 fn main(rt: HostRuntime) -> ExitCode {
     let mut input = rt.stdin();
     let mut out = rt.stdout();

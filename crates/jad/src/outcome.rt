@@ -54,7 +54,7 @@ fn outcome_of(alloc: Global, answer: Parse<Number>) -> Result<Outcome, AllocErro
     }
 }
 
-// The whole text is read; where nothing is asked, standard error tells how to.
+// The whole text is read; where nothing is asked, standard error says how to.
 fn outcome_asked(alloc: Global, asked: Option<Question<'_>>) -> Result<Outcome, AllocError>
     ensures { IfOk result (λ told. told ≡ outcome_asked asked.entry) }
 {

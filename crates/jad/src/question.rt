@@ -25,7 +25,7 @@ impl<'a> Model for Question<'a> {
     ghost view = { λ q. record { type = q.name; format = q.format; text = q.text.now } };
 }
 
-// The standard format in the radix that a text tells.
+// The standard format in the radix that a text says.
 fn format_by_radix(text: &[u8]) -> Option<NumberFormat>
     ensures { result ≡ format_by_radix text.now }
 {
@@ -37,7 +37,7 @@ fn format_by_radix(text: &[u8]) -> Option<NumberFormat>
     }
 }
 
-// The format that an option and its value tell.
+// The format that an option and its value say.
 fn format_told(option: &[u8], value: &[u8]) -> Option<NumberFormat>
     ensures { result ≡ format_told option.now value.now }
 {

@@ -115,7 +115,7 @@ impl ArrayFields<'_> {
         }
     }
 
-    // Puts the number of a text into a row's place, or tells the text's fault, if there is an array.
+    // Puts the number of a text into a row's place, or returns the text's fault, if there is an array.
     #[inline(always)]
     pub(crate) fn put_cell(
         &mut self,
@@ -149,7 +149,7 @@ impl ArrayFields<'_> {
         }
     }
 
-    // Puts the fixed-point number of a text into a row's place, or tells the text's fault, if there is an array.
+    // Puts the fixed-point number of a text into a row's place, or returns the text's fault, if there is an array.
     #[inline(always)]
     pub(crate) fn put_fixed(
         &mut self,
@@ -180,7 +180,7 @@ impl ArrayFields<'_> {
         }
     }
 
-    // Puts the fixed-point number of a text's first bytes, so many, into a row's place, where the number is read at once and
+    // Puts the fixed-point number of a text's first `size` bytes into a row's place, where the number is read at once and
     // the array's type is known.
     #[inline(always)]
     pub(crate) fn put_fixed_at_once(
@@ -215,7 +215,7 @@ impl ArrayFields<'_> {
         }
     }
 
-    // Puts the number of a text that isn't read at once into a row's place, or tells the text's fault, under the standard
+    // Puts the number of a text that isn't read at once into a row's place, or returns the text's fault, under the standard
     // format, if there is an array.
     #[inline(always)]
     pub(crate) fn put_standard_parsed(
@@ -245,7 +245,7 @@ impl ArrayFields<'_> {
         }
     }
 
-    // Puts the number of a text's first bytes, so many, into a row's place, where there is an array and the number is had at
+    // Puts the number of a text's first `size` bytes into a row's place, where there is an array and the number is had at
     // once under the standard format. Out of line, since codes read most numbers.
     #[inline(never)]
     pub(crate) fn put_at_once(&mut self, row: usize, ahead: &[u8], size: usize) -> bool
@@ -272,7 +272,7 @@ impl ArrayFields<'_> {
         }
     }
 
-    // Puts a number with its sign into a row's place, where the array's type, which a code says, has it, and tells whether it
+    // Puts a number with its sign into a row's place, where the array's type, which a code says, has it, and returns whether it
     // did.
     #[inline(always)]
     pub(crate) fn put_coded(

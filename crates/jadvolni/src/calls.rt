@@ -20,7 +20,7 @@ use lexical_parse_integer::{
 };
 use lexical_util::num::Integer;
 
-// Hands over a complete answer of a text of so many bytes.
+// Hands over a complete answer of a text of `size` bytes.
 #[inline(always)]
 fn store<T: Integer, S: Slot<T>>(answer: Result<T>, size: usize, value: &mut S) -> Outcome
     ensures { effect result (S.number value.new)

@@ -70,7 +70,7 @@ impl ColumnFields<'_> {
         }
     }
 
-    // Puts a number with its sign into a row's place, where the column's type has it, and tells whether it did.
+    // Puts a number with its sign into a row's place, where the column's type has it, and returns whether it did.
     #[inline(always)]
     pub(crate) fn put_coded_number(
         &mut self,

@@ -56,7 +56,7 @@ pub fn column_under<T: ParseInteger>(
 
 /// Where the field starts that a text ends in: behind its last separator, or at 0. What stands before is whole fields.
 ///
-/// It tells where the field of a fault starts, if the text ends at the fault's place; and how much of a block may be
+/// It returns where the field of a fault starts, if the text ends at the fault's place; and how much of a block may be
 /// read as a column, if more follows.
 #[unsafe(no_mangle)]
 pub extern "C" fn jadvolni_field_start(text: &[u8], separator: u8) -> usize

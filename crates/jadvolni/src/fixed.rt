@@ -153,7 +153,7 @@ impl FixedFields {
     }
 }
 
-// Hands over what a whole text of so many bytes is, under a valid description.
+// Hands over what a whole text of `size` bytes is, under a valid description.
 #[inline(always)]
 fn store<T: Integer, S: Slot<T>>(answer: Result<T>, size: usize, value: &mut S) -> Outcome
     ensures { effect result (S.number value.new)
@@ -297,7 +297,7 @@ pub fn fixed_front<T: Integer, S: Slot<T>>(
 
 /// 0 where the description is valid, and else the status of the first rule that it breaks.
 ///
-/// A reserved byte or bit that isn't 0 is told first, by status 64.
+/// A reserved byte or bit that isn't 0 is reported first, by status 64.
 #[unsafe(no_mangle)]
 pub extern "C" fn jadvolni_fixed_error(fixed: &FixedFields) -> u32
     ensures { result ≡ fixed_format_status fixed.now }

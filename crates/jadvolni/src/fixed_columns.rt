@@ -39,7 +39,7 @@ impl ColumnFields<'_> {
         is_quick(&self.description.plain())
     }
 
-    // Puts the amount of a text's first bytes, so many, into a row's place, where it is read at once. A column of fixed-point
+    // Puts the amount of a text's first `size` bytes into a row's place, where it is read at once. A column of fixed-point
     // numbers has to have amounts.
     #[inline(always)]
     pub(crate) fn put_amount(&mut self, row: usize, ahead: &[u8], size: usize) -> bool
@@ -73,7 +73,7 @@ impl ColumnFields<'_> {
         self.arrays.put_coded(numbers, row, is_negative, units)
     }
 
-    // Puts the fixed-point number of a text into a row's place, or tells the text's fault.
+    // Puts the fixed-point number of a text into a row's place, or returns the text's fault.
     #[inline(never)]
     pub(crate) fn put_fixed_number(
         &mut self,
@@ -97,7 +97,7 @@ impl ColumnFields<'_> {
         self.arrays.put_fixed(row, start, text, &format)
     }
 
-    // Puts the fixed-point number of a text's first bytes, so many, into a row's place, where it is read at once and its integer
+    // Puts the fixed-point number of a text's first `size` bytes into a row's place, where it is read at once and its integer
     // part has the standard format.
     #[inline(never)]
     pub(crate) fn put_fixed_at_once(&mut self, row: usize, ahead: &[u8], size: usize) -> bool

@@ -22,7 +22,7 @@ use lexical_parse_integer::quick::complete_valid;
 use lexical_parse_integer::{Error, Options};
 use lexical_tables::put_in_radix;
 
-// Puts the integer of a text into a row's place, or tells the text's fault, under a valid format, which is made here: a caller
+// Puts the integer of a text into a row's place, or returns the text's fault, under a valid format, which is made here: a caller
 // of each type would keep it in memory for all of them.
 #[inline(never)]
 fn put_by_format<T: ParseInteger>(
@@ -52,7 +52,7 @@ fn put_by_format<T: ParseInteger>(
 }
 
 impl ArrayFields<'_> {
-    // Puts the number of a text into a row's place, or tells the text's fault, under a valid format.
+    // Puts the number of a text into a row's place, or returns the text's fault, under a valid format.
     #[inline(always)]
     fn put_by_format(
         &mut self,
@@ -137,7 +137,7 @@ impl ColumnFields<'_> {
         self.arrays.put_in_radix(numbers, row, text, radix)
     }
 
-    // Puts the integer of a text into a row's place, or tells the text's fault, under a decimal format without punctuation.
+    // Puts the integer of a text into a row's place, or returns the text's fault, under a decimal format without punctuation.
     #[inline(never)]
     fn put_decimal(
         &mut self,
@@ -166,8 +166,8 @@ impl ColumnFields<'_> {
             .put_cell(row, start, text, ahead, &format, options)
     }
 
-    // Puts the integer of a text into a row's place, or tells the text's fault, under any other format. Out of line: inlined, it
-    // makes the reader of other columns too large to be inlined.
+    // Puts the integer of a text into a row's place, or returns the text's fault, under any other format. Out of line: inlined,
+    // it makes the reader of other columns too large to be inlined.
     #[inline(never)]
     fn put_by_format(&mut self, row: usize, start: usize, text: &[u8]) -> Option<Error>
         requires numbers { keeps_text (target_of self.old) ≡ false }
@@ -186,7 +186,7 @@ impl ColumnFields<'_> {
             .put_by_format(numbers, row, start, text, &self.description.integer)
     }
 
-    // Puts the integer of a text into a row's place, or tells the text's fault, under another format than the standard one.
+    // Puts the integer of a text into a row's place, or returns the text's fault, under another format than the standard one.
     #[inline(always)]
     pub(crate) fn put_other_number(
         &mut self,

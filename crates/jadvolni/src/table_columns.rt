@@ -51,7 +51,7 @@ impl ColumnFields<'_> {
         self.arrays.room().is_none()
     }
 
-    // Whether the column has bits, and too few for so many rows.
+    // Whether the column has bits, and too few for `rows` rows.
     fn lacks_bits(&self, rows: usize) -> bool
         ensures { result ≡ lacks_bits rows (bits_of self.now.present.now) }
     {
@@ -93,7 +93,7 @@ impl ColumnFields<'_> {
         }
     }
 
-    // Puts the integer of a text that isn't read at once into a row's place, or tells the text's fault, under the standard
+    // Puts the integer of a text that isn't read at once into a row's place, or returns the text's fault, under the standard
     // format.
     #[inline(always)]
     fn put_standard_number(&mut self, row: usize, start: usize, text: &[u8]) -> Option<Error>
@@ -110,7 +110,7 @@ impl ColumnFields<'_> {
         self.arrays.put_standard_parsed(row, start, text)
     }
 
-    // Puts the number of a text that isn't read at once into a row's place, or tells the text's fault. Under the standard
+    // Puts the number of a text that isn't read at once into a row's place, or returns the text's fault. Under the standard
     // format, as most columns have it, it isn't tried at once again; under another one it wasn't tried.
     #[inline(always)]
     fn put_parsed_number(
@@ -139,7 +139,7 @@ impl ColumnFields<'_> {
         self.put_other_number(row, start, text, ahead, options)
     }
 
-    // Puts the number of a text's first bytes, so many, into a row's place, where it is read at once.
+    // Puts the number of a text's first `size` bytes into a row's place, where it is read at once.
     #[inline(always)]
     fn put_number_at_once(&mut self, row: usize, ahead: &[u8], size: usize) -> bool
         requires usable { IsUsable (row + 1) (target_of self.old) }
@@ -160,7 +160,7 @@ impl ColumnFields<'_> {
         self.put_standard_at_once(row, ahead, size)
     }
 
-    // Puts the integer of a text's first bytes, so many, into a row's place, where it is read at once under the standard format.
+    // Puts the integer of a text's first `size` bytes into a row's place, where it is read at once under the standard format.
     #[inline(always)]
     fn put_standard_at_once(&mut self, row: usize, ahead: &[u8], size: usize) -> bool
         requires standard { format_of self.old.description.integer ≡ standard }
@@ -192,7 +192,7 @@ impl ColumnFields<'_> {
         }
     }
 
-    // What is wrong with a column of numbers that has an array of some room, if so many rows are asked for.
+    // What is wrong with a column of numbers that has an array of some room, if `rows` rows are asked for.
     fn number_status(&self, room: usize, rows: usize) -> u32
         requires room { option_map (λ array. length array.numbers) (array_in self.now.arrays)
             ≡ Some room }
@@ -207,7 +207,7 @@ impl ColumnFields<'_> {
         self.description.number_status()
     }
 
-    // What is wrong with a column of texts, if so many rows are asked for.
+    // What is wrong with a column of texts, if `rows` rows are asked for.
     fn text_status(&self, rows: usize) -> u32
         requires texts { array_in self.now.arrays ≡ None }
         requires some { length self.now.texts.now ≢ 0 }

@@ -136,7 +136,7 @@ fn outcome_of(answer: Result<Table, TableError>) -> TableOutcome
     }
 }
 
-// What is answered of the first column that can't be read, if so many rows are asked for. Two calls ask it, once each.
+// What is answered of the first column that can't be read, if `rows` rows are asked for. Two calls ask it, once each.
 #[inline(never)]
 pub(crate) fn wrong_column(columns: &[ColumnFields<'_>], rows: usize) -> Option<TableOutcome>
     ensures { result ≡ wrong_column rows 0 columns.now }

@@ -129,7 +129,7 @@ pub fn number_of_4digits(word: u32) -> u32
     pairs.wrapping_mul(100 * 0x1_0000 + 1) >> 16
 }
 
-// The number of the first digits of a word of four: of a text of so many bytes, those before the last four. The rest is
+// The number of the first digits of a word of four: of a text of `length` bytes, those before the last four. The rest is
 // shifted out.
 #[inline(always)]
 fn number_of_first_of_four(word: u32, length: usize) -> u32

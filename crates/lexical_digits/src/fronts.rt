@@ -11,7 +11,7 @@ use crate::values::{value_from_17, value_to_16};
 use lexical_util::num::Integer;
 
 // How many digits a word begins with: the lowest byte comes first. Carries and borrows run upwards alone, so that the
-// lowest bit that is set tells of the first byte that is no digit.
+// lowest bit that is set stands for the first byte that is no digit.
 #[inline(always)]
 fn digits_ahead(word: u64) -> u32
     ensures few { result ≤ 8 }

@@ -80,7 +80,7 @@ fn read_any_column<T: ParseInteger>(
 /// The numbers are at the slice's front, and the rest of the slice is as it was, also after a fault.
 /// Where the text has more fields than the slice has room for, it is read up to the start of the next
 /// one, and what is there isn't looked at: a call on the text from `stop` on goes on exactly there,
-/// and its places count from that `stop`. An invalid format is told before all else.
+/// and its places count from that `stop`. An invalid format is reported before all else.
 ///
 /// With a comma, `12,7,` gives two numbers and stops at 5; in a slice of one it gives one number and
 /// stops at 3. `12,7x,1` gives `InvalidField` with `field` 1, `start` 3 and `InvalidDigit(4)`.

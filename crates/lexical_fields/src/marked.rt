@@ -116,7 +116,7 @@ pub fn value_in_front<T: ParseInteger>(text: &[u8], size: usize, format: &Number
     value_of_front::<T>(text, size, format)
 }
 
-/// The number of a text's first bytes, so many, as [`value_in_front`] has it, of a text that has them.
+/// The number of a text's first `size` bytes, as [`value_in_front`] has it, of a text that has them.
 #[inline(always)]
 pub fn value_of_front<T: ParseInteger>(text: &[u8], size: usize, format: &NumberFormat) -> Option<T>
     requires within { size ≤ length text.now }
@@ -129,7 +129,7 @@ pub fn value_of_front<T: ParseInteger>(text: &[u8], size: usize, format: &Number
     value_with_room::<T>(text, size, b' ', format)
 }
 
-/// The number that a text's first bytes write, so many, where they are up to twelve decimal digits. `None` says nothing of
+/// The number that a text's first `count` bytes write, where they are up to twelve decimal digits. `None` says nothing of
 /// them. The text has to have sixteen bytes.
 #[inline(always)]
 pub fn number_to_12(digits: &[u8], count: usize) -> Option<u64>
@@ -142,7 +142,7 @@ pub fn number_to_12(digits: &[u8], count: usize) -> Option<u64>
     Some(u64::from(high) * 1_000_000 + u64::from(low))
 }
 
-/// The number that a text's first bytes, so many, write, and whether a minus stands in front, where they are one to
+/// The number that a text's first `size` bytes write, and whether a minus stands in front, where they are one to
 /// twelve decimal digits alone or behind a minus. `None` says nothing of them. Seventeen bytes have to follow them.
 #[inline(always)]
 pub fn number_of_front(text: &[u8], size: usize) -> Option<(bool, u64)>
@@ -174,7 +174,7 @@ fn number_from_13(digits: &[u8], count: usize) -> Option<u64>
     Some(first * 1_000_000_000_000 + last)
 }
 
-/// The number that a text's first bytes, so many, write, as [`number_of_front`] has it, where they are thirteen to
+/// The number that a text's first `size` bytes write, as [`number_of_front`] has it, where they are thirteen to
 /// eighteen digits.
 #[inline(always)]
 pub fn long_number_of_front(text: &[u8], size: usize) -> Option<(bool, u64)>

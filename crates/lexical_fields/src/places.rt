@@ -12,7 +12,7 @@ use lexical_parse_integer::{Error, NumberFormat, Options, Result};
 
 /// A fault of a field that starts at a place, with its own place counted from the start of the text.
 ///
-/// A caller who cuts a text, and reads a part, tells the part's fault by it. The fault of a format has no place.
+/// A caller who cuts a text, and reads a part, reports the part's fault by it. The fault of a format has no place.
 pub fn error_in_text(start: usize, error: Error) -> Error
     requires { IfSome (place_of error) (λ place. start + place < 2 ^ 64) }
     ensures { result ≡ error_in_text start error }

@@ -40,7 +40,7 @@ static PLACES: [[u8; 16]; 13] = [
     [0, 1, 2, 0, 3, 4, 5, 3, 6, 7, 8, 6, 9, 10, 11, 9],
 ];
 
-// The first bytes of a text, so many, less `0` and behind zeros, in threes.
+// The first `count` bytes of a text, less `0` and behind zeros, in threes.
 #[inline(always)]
 fn digits_in_threes(text: &[u8], count: usize) -> u8x16
     requires few { count ≤ 12 }

@@ -57,7 +57,7 @@ fn whole_under_any<T: Integer>(
 pub trait FromFixed: ParseFixed {
     /// The number that the whole text stands for, in units of the last place: with two places `12.50` is 1250.
     ///
-    /// The value is exact, and nothing is rounded. A fault tells its place, which counts bytes from 0, and is the first
+    /// The value is exact, and nothing is rounded. A fault has a place, which counts bytes from 0, and is the first
     /// from left to right:
     ///
     /// - what the format of the integer part says of its sign, its zeros and its digits: `InvalidPositiveSign`,
@@ -89,7 +89,7 @@ pub trait FromFixed: ParseFixed {
     /// Of `12.50 EUR` with two places the answer is 1250 and 5. A number isn't cut: in `12.505` the digit behind the last
     /// place is `InvalidDigit(5)`, and without places the point of `12.5` is `InvalidDigit(2)`. Where fewer places are
     /// taken, a point without a digit behind it isn't read: `12. And` is 1200 and 2. Where all are asked for, `Empty`
-    /// tells the place where a digit is missing. So it does in front of a text without digits, unless the format of the
+    /// has the place where a digit is missing. So it does in front of a text without digits, unless the format of the
     /// integer part needs none.
     fn from_fixed_partial(
         bytes: &[u8],

@@ -43,7 +43,7 @@ pub(crate) fn digits_at_once<T: Integer>() -> usize
     }
 }
 
-// The power of ten by which a number goes up for so many digits behind it.
+// The power of ten by which a number goes up for `count` digits behind it.
 #[inline(always)]
 fn scale_for<T: Integer>(count: usize) -> T
     requires { count ≤ digits_at_once T.TYPE }
@@ -55,7 +55,7 @@ fn scale_for<T: Integer>(count: usize) -> T
     T::from_u32(power_of_ten(count))
 }
 
-// The number with so many digits behind it, which write another, where the type has that.
+// The number with `count` digits behind it, which write another, where the type has that.
 #[inline(always)]
 pub(crate) fn append_part<T: Integer>(
     value: T,

@@ -20,7 +20,7 @@ pub struct FixedFormat {
     /// The byte between integer part and fraction: `.` or `,` mostly.
     pub point: u8,
 
-    /// How many digits stand behind the point, from 0 to 38. The number is told in units of the last one: with two
+    /// How many digits stand behind the point, from 0 to 38. The number counts units of the last one: with two
     /// places `12.50` is 1250. Without places no point is read.
     pub places: u8,
 

@@ -86,7 +86,7 @@ fn whole_fault(size: usize, error: Error) -> Error
     }
 }
 
-// The number in units behind an integer part that ends at a place, where the fraction has so many digits. Reading stops at
+// The number in units behind an integer part that ends at a place, where the fraction has `count` digits. Reading stops at
 // `stop`, where a byte can't stand or a digit is missing.
 #[inline(always)]
 fn units_behind<T: Integer>(
@@ -123,7 +123,7 @@ fn units_behind<T: Integer>(
     read_zeros::<T>(written, zeros, stop, is_negative)
 }
 
-// Where a number ends that has to be the whole text, where the fraction has so many digits.
+// Where a number ends that has to be the whole text, where the fraction has `count` digits.
 #[inline(always)]
 #[tactic(auto, unfolding(crate::specs::Fraction::whole_end))]
 fn whole_end(text: &[u8], format: &FixedFormat, place: usize, count: usize) -> usize
@@ -139,7 +139,7 @@ fn whole_end(text: &[u8], format: &FixedFormat, place: usize, count: usize) -> u
     }
 }
 
-// Where a number in front ends, where the fraction has so many digits.
+// Where a number in front ends, where the fraction has `count` digits.
 #[inline(always)]
 #[tactic(auto, unfolding(crate::specs::Fraction::front_end))]
 fn front_end(text: &[u8], format: &FixedFormat, place: usize, count: usize) -> usize
@@ -155,7 +155,7 @@ fn front_end(text: &[u8], format: &FixedFormat, place: usize, count: usize) -> u
     }
 }
 
-// Whether a fraction of so many digits has fewer than asked for.
+// Whether a fraction of `count` digits has fewer than asked for.
 #[inline(always)]
 fn lacks_places(format: &FixedFormat, count: usize) -> bool
     ensures { result ≡ (not format.now.takes_fewer && nat_lt count format.now.places) }

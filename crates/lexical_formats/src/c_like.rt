@@ -51,7 +51,7 @@ pub fn c_hexadecimal() -> NumberFormat
 
 /// Integer constants of C23: those of [`c`], with `0b1`, and with `'` between digits: `1'000`.
 ///
-/// `-0xFFFFFFFF` is 1 in C, as [`c`] tells. `0o777` is read besides, and is none of C23's. An end such as `u` or `wb`
+/// `-0xFFFFFFFF` is 1 in C, as [`c`] says. `0o777` is read besides, and is none of C23's. An end such as `u` or `wb`
 /// isn't read.
 pub fn c23() -> NumberFormat
     ensures fields { result ≡ c23 }

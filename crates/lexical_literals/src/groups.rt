@@ -222,7 +222,7 @@ fn number_behind_prefix(text: &[u8], format: &NumberFormat, radix: u32) -> (u64,
     }
 }
 
-// The small letter that tells the same radix as a byte does, where case may matter or not.
+// The small letter that stands for the same radix as a byte, where case may matter or not.
 #[inline(always)]
 #[tactic(auto, using(crate::proofs::GroupedFronts::same_letter, crate::proofs::GroupedFronts::same_byte, crate::proofs::GroupedFronts::same_small))]
 fn letter_of_prefix(byte: u8, exact: bool) -> u8

@@ -19,7 +19,7 @@ pub enum IntegerKind {
     Isize,
 }
 
-/// An entry of a table of suffixes. [`Suffix`] is one; a table of another kind has them too, if its entries tell these
+/// An entry of a table of suffixes. [`Suffix`] is one; a table of another kind has them too, if its entries have these
 /// two.
 pub trait SuffixEntry {
     // Its suffix and its kind.

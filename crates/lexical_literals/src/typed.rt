@@ -52,7 +52,7 @@ pub(crate) struct Front {
     stop: usize,
 }
 
-// Reads what stands before the digits of a number, and tells whether its sign is allowed.
+// Reads what stands before the digits of a number, and returns whether its sign is allowed.
 #[inline(always)]
 fn read_head(cursor: &mut Cursor<'_>) -> bool
     requires start { cursor.old.start ≡ 0 }
@@ -222,7 +222,7 @@ fn suffix_at(text: &[u8], stop: usize) -> &[u8]
 }
 
 /// The literal that a text begins with, whose suffix names its type: the number in front of it under a format, and the
-/// suffix, which is all ASCII letters, `0` to `9` and `_` that follow, as [`literal_in_front`] tells them.
+/// suffix, which is all ASCII letters, `0` to `9` and `_` that follow, as [`literal_in_front`] reads them.
 ///
 /// Under `rust` of `lexical_formats`, with the entries `u8` and `i64`, `1_000i64;` is 1000 as `I64` by entry 1, its
 /// number ends at 5, and its suffix at 8. The first of these faults that applies is the answer:

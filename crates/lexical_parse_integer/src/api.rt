@@ -17,7 +17,7 @@ use lexical_util::result::Result;
 pub trait FromLexical: Integer {
     /// The integer that the whole text stands for: an optional sign, and at least one digit.
     ///
-    /// A fault tells its place, which counts bytes from 0: `Overflow` or `Underflow` at the digit with which the value
+    /// A fault has a place, which counts bytes from 0: `Overflow` or `Underflow` at the digit with which the value
     /// leaves the type, `InvalidDigit` at the first byte that doesn't belong to the number, `Empty` where a digit is
     /// missing. As an `i8`, `-128` is `Ok(-128)`, `-129` is `Err(Underflow(3))`, and `1a` is `Err(InvalidDigit(1))`.
     fn from_lexical(bytes: &[u8]) -> Result<Self>

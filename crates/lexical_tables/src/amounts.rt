@@ -51,7 +51,7 @@ fn bytes_without(text: &[u8], place: usize) -> [u8; 16]
         .to_array()
 }
 
-// The number of a text's first bytes, so many, but for the one at a place, where they are digits.
+// The number of a text's first `count` bytes but for the one at a place, where they are digits.
 #[inline(always)]
 fn number_around(text: &[u8], count: usize, place: usize) -> Option<u64>
     requires few { count ≤ 13 }
@@ -94,7 +94,7 @@ fn stands_before(text: &[u8], count: usize, point: u8, behind: usize) -> bool
     count >= behind + 2 && text[count - 1 - behind] == point
 }
 
-// How many of a text's first bytes, so many, stand behind the point: as many as there are places, or fewer where that is
+// How many of a text's first `count` bytes stand behind the point: as many as there are places, or fewer where that is
 // taken, and none where no point is found.
 #[inline(always)]
 fn count_behind(
@@ -123,7 +123,7 @@ fn count_behind(
     Some(0)
 }
 
-/// The units of the last place that a text's first bytes, so many, stand for, and whether a minus stands in front, where they
+/// The units of the last place that a text's first `size` bytes stand for, and whether a minus stands in front, where they
 /// are up to twelve decimal digits alone or behind a minus, and among them the point with all of one to six places behind it;
 /// or fewer, or none and no point, where that is taken. `None` says nothing of them. Seventeen bytes have to follow them.
 ///

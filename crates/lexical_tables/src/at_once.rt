@@ -86,8 +86,8 @@ pub fn put_at_once<T: ParseInteger>(
 }
 
 impl Target<'_> {
-    /// Puts the number of a text's first bytes, so many, into a row's place, and sets the row's bit, where
-    /// [`put_at_once`] has it, and tells whether it did.
+    /// Puts the number of a text's first `size` bytes into a row's place, and sets the row's bit, where
+    /// [`put_at_once`] has it, and returns whether it did.
     #[inline(always)]
     pub(crate) fn read_at_once(&mut self, row: usize, ahead: &[u8], size: usize) -> bool
         requires usable { IsUsable (row + 1) (Some (view_of_target self.old)) }
@@ -105,7 +105,7 @@ impl Target<'_> {
         true
     }
 
-    // Puts the number of a text's first bytes, so many, into a row's place, where it is read at once.
+    // Puts the number of a text's first `size` bytes into a row's place, where it is read at once.
     #[inline(always)]
     fn put_number_at_once(&mut self, row: usize, ahead: &[u8], size: usize) -> bool
         requires valid { IsNone (fault self.old.format) }

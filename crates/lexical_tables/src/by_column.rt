@@ -20,7 +20,7 @@ use crate::rows::{Row, first_row};
 use crate::targets::TableColumn;
 use lexical_parse_integer::{Error, Options};
 
-// The number of what a cell holds goes to the row's place, or its fault is told.
+// The number of what a cell holds goes to the row's place, or its fault is returned.
 #[inline(always)]
 pub(crate) fn read_held<C: TableColumn>(
     target: &mut C,
@@ -60,7 +60,7 @@ fn cell_fault(
     quote_fault(dialect.has_quotes, is_number, cell)
 }
 
-// Reads a cell in its column of texts as `read_text` does, or tells the fault of its quotes. Out of line, so that numbers don't
+// Reads a cell in its column of texts as `read_text` does, or returns the fault of its quotes. Out of line, so that numbers don't
 // pay for it.
 #[inline(never)]
 fn read_left_text<C: TableColumn>(
@@ -217,8 +217,8 @@ pub(crate) fn put_end_fault(
     *wrong = end_fault(&row, index, columns, count, None);
 }
 
-// Reads a cell as `read_cell` does, the first bytes of a text, so many, where it isn't read at once, and tells whether it is
-// right: else what is wrong is told. Out of line, to keep registers for the loop.
+// Reads a cell as `read_cell` does, the first `size` bytes of a text, where it isn't read at once, and returns whether it is
+// right: else what is wrong is reported. Out of line, to keep registers for the loop.
 #[inline(never)]
 pub(crate) fn read_by_column<C: TableColumn>(
     targets: &mut [C],
@@ -320,7 +320,7 @@ fn read_cells<C: TableColumn>(
 }
 
 // The numbers of the first row of a text go to its place in the targets, behind so many bytes and columns of the row that were
-// read, up to the row's fault, which is told: what is behind it. Out of line, to keep registers for the loop.
+// read, up to the row's fault, which is returned: what is behind it. Out of line, to keep registers for the loop.
 #[inline(never)]
 pub(crate) fn read_rest<'a, C: TableColumn>(
     start: usize,

@@ -44,7 +44,7 @@ impl Target<'_> {
         under_format(code, &self.format)
     }
 
-    // Puts a number with its sign into a row's place, and sets the row's bit, where the column's type has it, and tells whether
+    // Puts a number with its sign into a row's place, and sets the row's bit, where the column's type has it, and returns whether
     // it did.
     #[inline(always)]
     pub(crate) fn put_with_sign(&mut self, row: usize, is_negative: bool, number: u64) -> bool
@@ -66,7 +66,7 @@ impl Target<'_> {
         true
     }
 
-    // Puts a number with its sign into a row's place, where the column's type has it, and tells whether it did.
+    // Puts a number with its sign into a row's place, where the column's type has it, and returns whether it did.
     #[inline(always)]
     fn put_number(&mut self, row: usize, is_negative: bool, number: u64) -> bool
         requires room { row < length (view_of_target self.old).values }

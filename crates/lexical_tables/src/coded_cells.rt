@@ -14,7 +14,7 @@ use crate::known_cells::{read_known, read_plain};
 use crate::targets::TableColumn;
 use lexical_parse_integer::Options;
 
-// Reads the cell of a column at once, the first bytes of a text, so many, by the column's code, and tells whether it did.
+// Reads the cell of a column at once, the first `size` bytes of a text, by the column's code, and returns whether it did.
 #[inline(always)]
 pub(crate) fn read_coded_cell<C: TableColumn, const HAS_QUOTES: bool, const HAS_CALLS: bool>(
     targets: &mut [C],
@@ -93,7 +93,7 @@ fn read_long_cell<C: TableColumn>(
     )
 }
 
-// Reads the cell of a column as `read_plain` does, the first bytes of a text, so many.
+// Reads the cell of a column as `read_plain` does, the first `size` bytes of a text.
 #[inline(always)]
 fn read_plain_cell<C: TableColumn>(
     targets: &mut [C],
@@ -128,7 +128,7 @@ fn read_plain_cell<C: TableColumn>(
     read_plain(&mut targets[column], code, row, cell, dialect)
 }
 
-// Reads the cell of a column as `read_known` does, the first bytes of a text, so many. Out of line, to keep registers for the loop.
+// Reads the cell of a column as `read_known` does, the first `size` bytes of a text. Out of line, to keep registers for the loop.
 #[inline(never)]
 fn read_known_cell<C: TableColumn>(
     targets: &mut [C],
@@ -180,8 +180,8 @@ fn code_of(codes: &[u8; CODED], column: usize) -> u8
 // How many bytes a cell may have whose digits are all read at once.
 const SHORT: usize = 12;
 
-// Reads the cell of a column that `read_coded_cell` has left, the first bytes of a text, so many, by the column's code: more
-// digits, a text, or a number that is read at once. It tells whether it did.
+// Reads the cell of a column that `read_coded_cell` has left, the first `size` bytes of a text, by the column's code: more
+// digits, a text, or a number that is read at once. It returns whether it did.
 #[inline(always)]
 fn read_by_code<C: TableColumn>(
     targets: &mut [C],
@@ -221,8 +221,8 @@ fn read_by_code<C: TableColumn>(
     read_known_cell(targets, code, column, row, start, ahead, size, dialect)
 }
 
-// Reads the cell of a column that `read_coded_cell` has left, the first bytes of a text, so many, and tells whether it is right:
-// else what is wrong is told.
+// Reads the cell of a column that `read_coded_cell` has left, the first `size` bytes of a text, and returns whether it is right:
+// else what is wrong is reported.
 #[inline(always)]
 pub(crate) fn read_left_cell<C: TableColumn>(
     targets: &mut [C],

@@ -112,7 +112,7 @@ impl ColumnInteger for i64 {
     }
 }
 
-/// Puts a number with its sign into a row's place of a slice, where [`ColumnInteger::from_number`] has it, and tells whether
+/// Puts a number with its sign into a row's place of a slice, where [`ColumnInteger::from_number`] has it, and returns whether
 /// it did.
 ///
 /// It is for a [`TableColumn`](crate::TableColumn) of one's own. The slice has to have that place.

@@ -16,7 +16,7 @@ use crate::targets::TableColumn;
 use lexical_fields::{long_number_of_front, number_of_front};
 use lexical_parse_integer::Options;
 
-// What stands in a cell of so many bytes behind its quotes, where these have a meaning and the cell begins and ends with one,
+// What stands in a cell of `size` bytes behind its quotes, where these have a meaning and the cell begins and ends with one,
 // and how many bytes of that the cell holds: else all of the cell.
 #[inline(always)]
 fn within_quotes(ahead: &[u8], size: usize, has_quotes: bool) -> (&[u8], usize)
@@ -39,7 +39,7 @@ fn within_quotes(ahead: &[u8], size: usize, has_quotes: bool) -> (&[u8], usize)
     (&ahead[1..], size - 2)
 }
 
-// Whether it is seen at once that no quote is out of place in a cell that isn't read, the first bytes of a text, so many: quotes
+// Whether it is seen at once that no quote is out of place in a cell that isn't read, the first `size` bytes of a text: quotes
 // have no meaning, or one look shows that none stands within those that are round it.
 #[inline(always)]
 fn shows_no_fault(ahead: &[u8], size: usize, has_quotes: bool) -> bool
@@ -69,8 +69,8 @@ fn keeps_zero_rule(code: u8, ahead: &[u8], size: usize, is_negative: bool) -> bo
     ahead[first] != b'0' || size == first + 1
 }
 
-// Puts a number that was found of a text's first bytes, so many, into a row's place, where the column's format and type have
-// it, and tells whether it did.
+// Puts a number that was found of a text's first `size` bytes into a row's place, where the column's format and type have
+// it, and returns whether it did.
 #[inline(always)]
 fn put_found<C: TableColumn>(
     target: &mut C,
@@ -99,8 +99,8 @@ fn put_found<C: TableColumn>(
     target.put_number(code, row, is_negative, number)
 }
 
-// Reads a cell of a column of amounts at once, the first bytes of a text, so many, and tells whether it did. Out of line: inlined,
-// it makes the loops over rows too large to be inlined.
+// Reads a cell of a column of amounts at once, the first `size` bytes of a text, and returns whether it did. Out of line:
+// inlined, it makes the loops over rows too large to be inlined.
 #[inline(never)]
 fn read_amount<C: TableColumn, const HAS_QUOTES: bool>(
     target: &mut C,
@@ -125,8 +125,9 @@ fn read_amount<C: TableColumn, const HAS_QUOTES: bool>(
     target.read_amount(row, held, count)
 }
 
-// Reads a cell at once, the first bytes of a text, so many, where its column isn't read, or it is digits alone, behind a minus
-// or within quotes, or by a call an amount or a number of another format, where a table has such columns, and tells whether it did.
+// Reads a cell at once, the first `size` bytes of a text, where its column isn't read, or it is digits alone, behind a minus
+// or within quotes, or by a call an amount or a number of another format, where a table has such columns, and returns whether it
+// did.
 #[inline(always)]
 pub(crate) fn read_coded<C: TableColumn, const HAS_QUOTES: bool, const HAS_CALLS: bool>(
     target: &mut C,

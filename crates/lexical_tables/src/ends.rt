@@ -36,7 +36,7 @@ fn marks_of_two(bytes: &[u8], first: u8, second: u8) -> u64
     (lanes.simd_eq(u8x64::splat(first)) | lanes.simd_eq(u8x64::splat(second))).to_bitmask()
 }
 
-// What a look at 64 bytes tells: the ends of cells, a bit for each, and whether what is behind stands within quotes.
+// What a look at 64 bytes finds: the ends of cells, a bit for each, and whether what is behind stands within quotes.
 #[derive(Copy, Clone)]
 pub(crate) struct Window {
     pub ends: u64,

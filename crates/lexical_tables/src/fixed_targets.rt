@@ -29,7 +29,7 @@ pub struct FixedTarget<'a> {
 }
 
 /// Puts the fixed-point number of a cell that starts at a place into a row's place of a slice, in units of the last place, or
-/// tells the cell's fault.
+/// returns the cell's fault.
 ///
 /// It is for a [`TableColumn`](crate::TableColumn) of one's own. The description has to be valid, and the slice has to have
 /// that place.
@@ -105,8 +105,8 @@ impl FixedTarget<'_> {
         put_presence(&mut self.present, row, false);
     }
 
-    // Puts the number of a text's first bytes, so many, into a row's place, and sets the row's bit, where it is read at once, and
-    // tells whether it did.
+    // Puts the number of a text's first `size` bytes into a row's place, and sets the row's bit, where it is read at once, and
+    // returns whether it did.
     pub(crate) fn read_at_once(&mut self, row: usize, ahead: &[u8], size: usize) -> bool
         requires usable { IsUsable (row + 1) (Some (view_of_fixed self.old)) }
         requires within { size ≤ length ahead.now }
@@ -123,7 +123,7 @@ impl FixedTarget<'_> {
         true
     }
 
-    // Puts the number of a text's first bytes, so many, into a row's place, where it is read at once.
+    // Puts the number of a text's first `size` bytes into a row's place, where it is read at once.
     fn put_number_at_once(&mut self, row: usize, ahead: &[u8], size: usize) -> bool
         requires valid { IsNone (fixed_fault self.old.format) }
         requires room { row < length (view_of_fixed self.old).values }
@@ -142,8 +142,8 @@ impl FixedTarget<'_> {
             .put_fixed_at_once(row, ahead, size, &self.format)
     }
 
-    // Puts the amount of a text's first bytes, so many, into a row's place, and sets the row's bit, where it is read at once, and
-    // tells whether it did.
+    // Puts the amount of a text's first `size` bytes into a row's place, and sets the row's bit, where it is read at once, and
+    // returns whether it did.
     #[inline(always)]
     pub(crate) fn read_amount(&mut self, row: usize, ahead: &[u8], size: usize) -> bool
         requires amounts { HasAmounts (Some (view_of_fixed self.old)) }
@@ -163,7 +163,7 @@ impl FixedTarget<'_> {
         true
     }
 
-    // Puts the amount of a text's first bytes, so many, into a row's place, where it is read at once.
+    // Puts the amount of a text's first `size` bytes into a row's place, where it is read at once.
     #[inline(always)]
     fn put_amount(&mut self, row: usize, ahead: &[u8], size: usize) -> bool
         requires amounts { HasAmounts (Some (view_of_fixed self.old)) }
@@ -193,7 +193,7 @@ impl FixedTarget<'_> {
         self.numbers.put_with_sign(row, is_negative, units)
     }
 
-    // Puts the number of a text into a row's place, and sets the row's bit, or tells the text's fault.
+    // Puts the number of a text into a row's place, and sets the row's bit, or returns the text's fault.
     pub(crate) fn read(&mut self, row: usize, start: usize, text: &[u8]) -> Option<Error>
         requires usable { IsUsable (row + 1) (Some (view_of_fixed self.old)) }
         requires fits { start + length text.now < 2 ^ 64 }
@@ -209,7 +209,7 @@ impl FixedTarget<'_> {
         None
     }
 
-    // Puts the number of a text into a row's place, or tells the text's fault.
+    // Puts the number of a text into a row's place, or returns the text's fault.
     fn put_number(&mut self, row: usize, start: usize, text: &[u8]) -> Option<Error>
         requires valid { IsNone (fixed_fault self.old.format) }
         requires room { row < length (view_of_fixed self.old).values }

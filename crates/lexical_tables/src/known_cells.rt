@@ -15,8 +15,8 @@ use crate::misplaced::quote_fault;
 use crate::targets::TableColumn;
 use lexical_parse_integer::Options;
 
-// Reads a cell in its column of texts, if its quotes are in place, and tells whether they are: it holds the mark, or a text, and
-// where that stands goes to the row's place.
+// Reads a cell in its column of texts, if its quotes are in place, and returns whether they are: it holds the mark, or a text,
+// and where that stands goes to the row's place.
 #[inline(always)]
 #[tactic(auto, using(crate::proofs::CodeSteps::text_code))]
 pub(crate) fn read_text<C: TableColumn>(
@@ -64,7 +64,7 @@ fn may_be_mark<C: TableColumn>(target: &C, text: &[u8], mark: &[u8]) -> bool
     text.len() == mark.len()
 }
 
-// Reads a cell in its column of texts where quotes have no meaning, if it can't be the mark, and tells whether it did.
+// Reads a cell in its column of texts where quotes have no meaning, if it can't be the mark, and returns whether it did.
 #[inline(always)]
 #[tactic(auto, using(crate::proofs::CodeSteps::text_code))]
 fn read_plain_text<C: TableColumn>(
@@ -118,7 +118,7 @@ fn has_numbers(code: u8) -> bool
 }
 
 // Reads a cell in its column of numbers where quotes and blanks have no meaning, if it can't be the mark and the number is had at
-// once, and tells whether it did. Out of line: inlined, it makes the loop over rows too large to be inlined.
+// once, and returns whether it did. Out of line: inlined, it makes the loop over rows too large to be inlined.
 #[inline(never)]
 fn read_plain_number<C: TableColumn>(
     target: &mut C,
@@ -144,7 +144,7 @@ fn read_plain_number<C: TableColumn>(
     had_at_once(target, row, cell)
 }
 
-// Reads a cell as `read_known` does where quotes have no meaning and it can't be the mark, as most cells are, and tells whether
+// Reads a cell as `read_known` does where quotes have no meaning and it can't be the mark, as most cells are, and returns whether
 // it did.
 #[inline(always)]
 #[tactic(auto, using(crate::proofs::CodeSteps::numbers_said))]
@@ -176,7 +176,7 @@ pub(crate) fn read_plain<C: TableColumn>(
 }
 
 // Reads a cell in its column of numbers, where its quotes are in place and it holds the mark, or a number that is read at once,
-// and tells whether it did.
+// and returns whether it did.
 #[inline(always)]
 fn read_number_at_once<C: TableColumn>(
     target: &mut C,
@@ -208,7 +208,7 @@ fn read_number_at_once<C: TableColumn>(
     had_at_once(target, row, held)
 }
 
-// Reads a cell of a column whose code says that it has texts, or numbers that are read at once, and tells whether it did.
+// Reads a cell of a column whose code says that it has texts, or numbers that are read at once, and returns whether it did.
 #[inline(always)]
 #[tactic(auto, using(crate::proofs::CodeSteps::numbers_said))]
 pub(crate) fn read_known<C: TableColumn>(
@@ -239,7 +239,7 @@ pub(crate) fn read_known<C: TableColumn>(
 }
 
 // Reads a cell in its column of numbers that are parsed, where its quotes are in place and it holds the mark or a number, and
-// tells whether it did.
+// returns whether it did.
 #[inline(always)]
 fn read_parsed<C: TableColumn>(
     target: &mut C,
@@ -274,7 +274,7 @@ fn read_parsed<C: TableColumn>(
         .is_none()
 }
 
-// Reads a cell as `read_parsed` does, the first bytes of a text, so many. Its place is of no account: only a fault would tell it.
+// Reads a cell as `read_parsed` does, the first `size` bytes of a text. Its place is of no account: only a fault would have it.
 // Out of line, to keep registers for the loop.
 #[inline(never)]
 pub(crate) fn read_parsed_cell<C: TableColumn>(

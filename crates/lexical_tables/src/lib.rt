@@ -1,4 +1,4 @@
-//! Tables: the rows of a text are read by one call, and the first wrong cell is told.
+//! Tables: the rows of a text are read by one call, and the first wrong cell is reported.
 //!
 //! A row is a line, and its cells stand between separators, one byte that the caller names, or each has as
 //! many bytes as its width says; then a row may also be a record, which no line feed ends. Each row has as many

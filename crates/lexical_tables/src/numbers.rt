@@ -58,7 +58,7 @@ impl Numbers<'_> {
         }
     }
 
-    // Puts a number with its sign into a row's place, where the type has it, and tells whether it did.
+    // Puts a number with its sign into a row's place, where the type has it, and returns whether it did.
     #[inline(always)]
     pub(crate) fn put_with_sign(&mut self, row: usize, is_negative: bool, number: u64) -> bool
         requires room { row < length (numbers_in self.old) }
@@ -84,7 +84,7 @@ impl Numbers<'_> {
         }
     }
 
-    // Puts the number of a text's first bytes, so many, into a row's place, where it is read at once, and tells whether it did.
+    // Puts the number of a text's first `size` bytes into a row's place, where it is read at once, and returns whether it did.
     #[inline(always)]
     pub(crate) fn put_at_once(
         &mut self,
@@ -118,7 +118,7 @@ impl Numbers<'_> {
         }
     }
 
-    // Puts the number of a text that isn't read at once into a row's place, or tells the text's fault.
+    // Puts the number of a text that isn't read at once into a row's place, or returns the text's fault.
     #[inline(always)]
     pub(crate) fn put_parsed(
         &mut self,
@@ -150,8 +150,8 @@ impl Numbers<'_> {
         }
     }
 
-    // Puts the fixed-point number of a text's first bytes, so many, into a row's place, where it is read at once, and tells whether
-    // it did.
+    // Puts the fixed-point number of a text's first `size` bytes into a row's place, where it is read at once, and returns
+    // whether it did.
     pub(crate) fn put_fixed_at_once(
         &mut self,
         row: usize,
@@ -184,7 +184,7 @@ impl Numbers<'_> {
         }
     }
 
-    // Puts the fixed-point number of a text into a row's place, or tells the text's fault.
+    // Puts the fixed-point number of a text into a row's place, or returns the text's fault.
     pub(crate) fn put_fixed(
         &mut self,
         row: usize,

@@ -12,7 +12,7 @@ use lexical_parse_integer::parse::ParseInteger;
 use lexical_parse_integer::quick::{complete_standard, complete_valid, value_for_format};
 use lexical_parse_integer::{Error, NumberFormat, NumberFormatBuilder, format};
 
-// Puts the number of a cell that isn't read at once into a row's place, or tells the cell's fault: by the reader for its
+// Puts the number of a cell that isn't read at once into a row's place, or returns the cell's fault: by the reader for its
 // format's kind, or by the parser.
 #[inline(never)]
 pub(crate) fn put_parsed<T: ParseInteger>(
@@ -42,7 +42,7 @@ pub(crate) fn put_parsed<T: ParseInteger>(
 }
 
 /// Puts the number of a cell into a row's place of a slice, under the standard format with another radix than 10, where the cell
-/// is digits alone or behind a minus and the type has their number, and tells whether it did. Else it puts nothing, and says
+/// is digits alone or behind a minus and the type has their number, and returns whether it did. Else it puts nothing, and says
 /// nothing of the cell. The format is made here: what it asks for isn't asked again.
 ///
 /// It is for a [`TableColumn`](crate::TableColumn) of one's own. The slice has to have that place.
@@ -70,7 +70,7 @@ pub fn put_in_radix<T: ParseInteger>(values: &mut [T], row: usize, cell: &[u8], 
     }
 }
 
-/// Puts the number of a cell that [`put_at_once`](crate::put_at_once) has left into a row's place of a slice, or tells the
+/// Puts the number of a cell that [`put_at_once`](crate::put_at_once) has left into a row's place of a slice, or returns the
 /// cell's fault, under the standard format, which is made here: a caller would make it for each cell. Of up to twelve bytes no
 /// digits were left, so they aren't read as such again.
 ///

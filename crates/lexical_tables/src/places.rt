@@ -37,7 +37,7 @@ pub(crate) fn behind_row<'a>(text: &'a [u8], dialect: &Dialect<'_>) -> &'a [u8]
 
 /// Where the row of a number is, counted from 0, if the text has one.
 ///
-/// It is for a row at fault: [`TableError`](crate::TableError) tells its number. A call whose text begins at
+/// It is for a row at fault: [`TableError`](crate::TableError) has its number. A call whose text begins at
 /// `stop` goes on with the next row. A quote that nothing closes ends at the text's end, and so does its row. Empty
 /// rows that are skipped have no number, and are passed by `stop`.
 ///
@@ -62,7 +62,7 @@ pub fn row_place(text: &[u8], dialect: &Dialect<'_>, row: usize) -> Option<RowPl
     None
 }
 
-/// The law of places: the row of a fault that [`read_columns`](crate::read_columns) tells has a place.
+/// The law of places: the row of a fault that [`read_columns`](crate::read_columns) reports has a place.
 ///
 /// The call does nothing. A proof that needs the law makes it, and has its clause.
 pub fn faults_have_places()

@@ -109,7 +109,7 @@ fn has_none_below(marks: u64, place: usize) -> bool
     marks == 0 || lowest_mark(marks) >= place
 }
 
-// Whether one look at sixteen bytes shows that none of a text's first bytes, so many, is a quote.
+// Whether one look at sixteen bytes shows that none of a text's first `size` bytes is a quote.
 #[inline(always)]
 pub(crate) fn shows_no_quote(text: &[u8], size: usize) -> bool
     requires room { 16 ≤ length text.now }

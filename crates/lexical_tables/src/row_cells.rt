@@ -107,7 +107,7 @@ fn put_row_cells(
 /// A cell stands with its quotes and blanks, and without what ends the row. By widths these are the cells that are
 /// wholly there, and one more where bytes are left. Between separators a row without a byte has one cell, which is
 /// empty; a text without a byte has no row. Empty rows count here, also where the dialect skips them: so the text
-/// begins with the row that is asked for, as [`row_place`](crate::row_place) tells it. All else in the array is as it
+/// begins with the row that is asked for, as [`row_place`](crate::row_place) returns it. All else in the array is as it
 /// was.
 ///
 /// The cells of a header have its names. For the cell of a fault, ask from its column on, and for one.

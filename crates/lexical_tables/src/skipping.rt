@@ -22,7 +22,7 @@ use crate::places::{RowPlace, behind_row};
 use crate::targets::TableColumn;
 use lexical_parse_integer::Options;
 
-// What is known of a bad row behind so many others: its fault counts the right rows, and it stands from one place to another.
+// What is known of a bad row behind `bad_count` others: its fault counts the right rows, and it stands from one place to another.
 #[inline(always)]
 fn bad_row(error: TableError, bad_count: usize, start: usize, stop: usize) -> BadRow
     requires fits { error.row + bad_count < 2 ^ 64 }
@@ -84,7 +84,7 @@ fn read_row<'a, C: TableColumn, const HAS_QUOTES: bool, const HAS_CALLS: bool>(
     }
 }
 
-// Keeps what is known of a bad row that starts at a place, behind so many others, if there is room: what the text has behind
+// Keeps what is known of a bad row that starts at a place, behind `bad_count` others, if there is room: what the text has behind
 // it. Out of line, and cold for the compiler: bad rows are rare.
 #[cold]
 #[inline(never)]

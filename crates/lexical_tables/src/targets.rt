@@ -32,7 +32,7 @@ pub struct Target<'a> {
     pub present: Option<&'a mut [u8]>,
 }
 
-/// Puts the number of a cell that starts at a place into a row's place of a slice, or tells the cell's fault.
+/// Puts the number of a cell that starts at a place into a row's place of a slice, or returns the cell's fault.
 ///
 /// It is for a [`TableColumn`] of one's own. The format has to be valid, and the slice has to have that place. The
 /// text ahead begins with the cell: by what follows there, digits are read as words.
@@ -159,7 +159,7 @@ pub trait TableColumn {
             ≡ option_map (put_value row (Some (Text (view_of_text text)))) (target self.old) }
         ensures other { code ≢ TEXTS → target self.new ≡ target self.old };
 
-    /// Puts the number that all of a text stands for into a row's place, and sets the row's bit, or tells the
+    /// Puts the number that all of a text stands for into a row's place, and sets the row's bit, or returns the
     /// text's fault. What is ahead begins with the text.
     fn read(
         &mut self,
@@ -177,8 +177,8 @@ pub trait TableColumn {
         ensures target { target self.new ≡ option_map (put_text row
             (record { start = start; text = text.now })) (target self.old) };
 
-    /// Puts the number that a text's first bytes, so many, stand for into a row's place, and sets the row's bit, where that
-    /// is read at once, and tells whether it did. Else it puts nothing, and says nothing of them: `read_left` has to be asked.
+    /// Puts the number that a text's first `size` bytes stand for into a row's place, and sets the row's bit, where that
+    /// is read at once, and returns whether it did. Else it puts nothing, and says nothing of them: `read_left` has to be asked.
     ///
     /// A column that doesn't write it is read by `read` alone.
     fn read_at_once(&mut self, row: usize, ahead: &[u8], size: usize) -> bool
@@ -365,7 +365,7 @@ impl Target<'_> {
         put_presence(&mut self.present, row, false);
     }
 
-    // Puts the number of a text that isn't read at once into a row's place, and sets the row's bit, or tells the text's fault.
+    // Puts the number of a text that isn't read at once into a row's place, and sets the row's bit, or returns the text's fault.
     #[inline(always)]
     pub(crate) fn read_left(&mut self, row: usize, start: usize, text: &[u8]) -> Option<Error>
         requires usable { IsUsable (row + 1) (Some (view_of_target self.old)) }
@@ -382,7 +382,7 @@ impl Target<'_> {
         None
     }
 
-    // Puts the number of a text that isn't read at once into a row's place, or tells the text's fault.
+    // Puts the number of a text that isn't read at once into a row's place, or returns the text's fault.
     #[inline(always)]
     fn put_parsed_number(&mut self, row: usize, start: usize, text: &[u8]) -> Option<Error>
         requires valid { IsNone (fault self.old.format) }

@@ -25,7 +25,7 @@ pub enum RowError {
 /// The numbers in the columns of a row, whose widths are in bytes and add up to a `usize`.
 ///
 /// A number may begin with zeros, after its sign if it has one; spaces aren't read. A row of
-/// another length than its columns' is told first.
+/// another length than its columns' is reported first.
 ///
 /// With the widths 4, 3 and 5 the row `0007042-0013` has the numbers 7, 42 and -13.
 pub fn values<const N: usize>(row: &[u8], widths: &[usize; N]) -> Result<[i64; N], RowError>

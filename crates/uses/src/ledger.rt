@@ -82,7 +82,7 @@ fn as_i64(number: i128) -> Option<i64>
 /// The sum of the amounts in a ledger's lines, which are those of `str::lines`; an empty line has
 /// none.
 ///
-/// The first line that is no entry is told before a sum that leaves `i64`. The sum is that of all
+/// The first line that is no entry is reported before a sum that leaves `i64`. The sum is that of all
 /// lines, so that their order doesn't matter: an amount may make up for what others exceed.
 pub fn total(text: &str) -> Result<i64, LedgerError>
     ensures { result ≡ total_in text.now }

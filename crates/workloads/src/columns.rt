@@ -83,7 +83,7 @@ fn column(alloc: Global, random: &mut Random, writing: &Writing) -> Result<Sampl
     Ok(sample)
 }
 
-// Takes a fault of a column, and tells where to go on.
+// Takes a fault of a column, and returns where to go on.
 fn take_fault(digest: &mut Digest, fault: ColumnError) -> usize {
     match fault {
         ColumnError::InvalidFormat(error) => {
@@ -160,7 +160,7 @@ fn read_blocks<T: ParseInteger + Digested>(
     }
 }
 
-// Reads a text whose faults are told one by one, and takes each field.
+// Reads a text whose faults are reported one by one, and takes each field.
 fn read_fields(sample: &mut Sample, digest: &mut Digest) {
     sample.renew();
     let fields: Fields<'_, u64> = Fields::new(sample.text(), b'\n', &STANDARD, &options::STANDARD);

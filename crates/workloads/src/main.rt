@@ -22,7 +22,7 @@ use std::alloc::{AllocError, Global};
 use std::process::ExitCode;
 
 /// Does the job that the arguments name, and prints its digest. Arguments that name none, and memory that is refused,
-/// are told by standard error and status 2.
+/// are reported by standard error and status 2.
 fn main(rt: HostRuntime) -> ExitCode {
     let Some(job) = job_of(&rt) else {
         let _shown = eprintln!(rt; "usage: workloads NAME PASSES SEED");

@@ -174,7 +174,7 @@ impl Entries {
         })
     }
 
-    /// Reads the entries of a text, or of a part that may cut one, takes them, and tells where it stopped.
+    /// Reads the entries of a text, or of a part that may cut one, takes them, and returns where it stopped.
     pub fn read(
         &mut self,
         alloc: Global,
@@ -270,7 +270,7 @@ pub struct Amounts {
 }
 
 impl Amounts {
-    /// Room for so many rows.
+    /// Room for `rows` rows.
     pub fn new(alloc: Global, rows: usize) -> Result<Amounts, AllocError> {
         Ok(Amounts {
             first: vec![in alloc; 0; rows]?,

@@ -22,7 +22,7 @@ struct Colour(#[serde(with = "colour")] u32);
 #[derive(Debug, PartialEq, Serialize, Deserialize)]
 struct Wide(#[serde(with = "wide")] i128);
 
-/// What is read, or the front of what is told.
+/// What is read, or the front of the message.
 fn read<'a, T: Deserialize<'a>>(json: &'a str) -> Result<T, String> {
     serde_json::from_str(json).map_err(|error| error.to_string().split(" at line").next().unwrap().into())
 }

@@ -107,8 +107,8 @@ class Part:
 
 
 class Fault(NamedTuple):
-    """What is wrong with a row, as `_parse_table` tells it, with the line of its place, and a hint
-    if it is the first row."""
+    """What is wrong with a row, as `_parse_table` reports it, with the line of its place, and a
+    hint if it is the first row."""
 
     kind: str
     message: str

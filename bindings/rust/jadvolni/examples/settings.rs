@@ -16,7 +16,7 @@ fn settings(words: &[OsString]) -> Result<(u16, u8), Box<dyn Error>> {
     Ok((port, percent))
 }
 
-/// Answers the words of a command line, or tells what is wrong.
+/// Answers the words of a command line, or reports what is wrong.
 pub fn run(words: &[OsString], mut output: impl Write) -> Result<(), Box<dyn Error>> {
     let (port, percent) = settings(words)?;
     writeln!(output, "port {port}, {percent} percent")

@@ -19,7 +19,7 @@ pub(crate) struct Block {
 
 impl Block {
     /// A block for fields or rows of at most `size` bytes, and at least one: behind one that is as long has another
-    /// byte room, which tells whether it is longer.
+    /// byte room, which shows whether it is longer.
     pub(crate) fn of(size: usize) -> Self {
         let limit = size.max(1).saturating_add(1);
         Block { bytes: vec![0; limit.min(FIRST)], limit }

@@ -1,4 +1,4 @@
-//! The front of a text, for what is told of it.
+//! The front of a text, for what is said of it.
 
 use core::fmt::{self, Debug, Display, Formatter, Write};
 

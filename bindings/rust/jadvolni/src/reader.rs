@@ -71,7 +71,7 @@ pub struct ColumnReader<R, T> {
     numbers: Vec<T>,
     given: usize,
     count: usize,
-    /// What is to be told behind them.
+    /// The error to report behind them.
     fault: Option<ReadError>,
     has_ended: bool,
 }

@@ -233,7 +233,7 @@ impl<'a, R: Read> TableReader<'a, R> {
         self.bad_rows
     }
 
-    /// Parses the bytes that are left, tells the bad rows, and answers how many right ones there are.
+    /// Parses the bytes that are left, reports the bad rows, and returns how many right ones there are.
     fn parse_skipping(
         &mut self,
         columns: &mut [TableColumn<'_>],
@@ -275,7 +275,7 @@ impl<'a, R: Read> TableReader<'a, R> {
         }
     }
 
-    /// What is told of an error in the bytes that are left, behind which no row follows.
+    /// What is reported of an error in the bytes that are left, behind which no row follows.
     fn failed(&mut self, error: TableError) -> TableReadError {
         self.has_ended = true;
         let text = &self.block[self.parsed..self.filled];

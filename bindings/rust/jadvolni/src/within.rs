@@ -117,7 +117,7 @@ fn number_within<T: Integer + PartialOrd>(
 
 /// What else is wrong with a text than that a type lacks its number: `None` where that is all.
 ///
-/// The widest type with a sign tells, in which `-5` and `70000` are numbers.
+/// The widest type with a sign decides, in which `-5` and `70000` are numbers.
 fn fault_beside_bounds(error: Error, widest: Result<i128, Error>) -> Option<Error> {
     let is_beyond = |error| matches!(error, Error::Overflow(_) | Error::Underflow(_));
     match widest {

@@ -65,7 +65,7 @@ fn the_first_a_middle_and_the_last_row() {
     let shown = "BadRow { row: 2, column: 1, error: TooFewCells(9), start: 8, stop: 10 }";
     assert_eq!(format!("{:?}", bad[1]), shown);
     assert_eq!(TableError::from(bad[1]).behind(10, 100), bad[1].behind(10, 100).into());
-    // Of a text that isn't its own it tells what that has, and no call panics.
+    // Of a text that isn't its own it reports what that has, and no call panics.
     let far = bad[1].behind(usize::MAX, usize::MAX).in_text("1,2\n", &comma());
     assert_eq!(far.to_string(), "line 2: too few cells, none for column 2");
     assert_eq!((far.row, far.row_start, far.row_stop), (usize::MAX, usize::MAX, usize::MAX));

@@ -1,4 +1,5 @@
-//! What a fault of a table tells of its text: hostile cells, each kind of fault, and texts that aren't those of the fault.
+//! What a fault of a table says of its text: hostile cells, each kind of fault, and texts that aren't those of the
+//! fault.
 #![cfg(feature = "std")]
 
 use jadvolni::{
@@ -104,7 +105,7 @@ fn cells_of_given_widths() {
     assert_eq!((told.line, told.row_start, told.row_stop, told.place()), (0, 0, 0, None));
 }
 
-/// A fault is told of the text that is handed over, whatever that is, and no call panics.
+/// A fault is reported of the text that is handed over, whatever that is, and no call panics.
 #[test]
 fn another_text_than_that_of_the_fault() {
     for row in [0, 1, 5, usize::MAX] {
@@ -137,7 +138,7 @@ fn names_of_a_header() {
     assert_eq!((told.row, told.line, told.column, told.name()), (1, 4, 2, Some("cents")));
     assert_eq!(&text[told.row_start..told.row_stop], "2,c,7x\n");
     assert_eq!(told.error.position(text), Some(Position { line: 4, column: 5 }));
-    // The reader tells the same, in steps of any size.
+    // The reader reports the same, in steps of any size.
     for size in 24..60 {
         let mut rows = TableReader::with_capacity(size, text.as_bytes(), quotes);
         let header = rows.header().unwrap();

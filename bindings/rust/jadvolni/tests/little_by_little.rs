@@ -128,7 +128,7 @@ impl Read for Endless {
     }
 }
 
-/// A block of any size may be asked for: what isn't needed isn't taken, and where there is no memory, that is told.
+/// A block of any size may be asked for: what isn't needed isn't taken, and where there is no memory, that is reported.
 #[test]
 fn blocks_of_any_size() {
     for size in [usize::MAX, usize::MAX - 1, isize::MAX as usize, 1 << 46] {

@@ -10,7 +10,7 @@ use std::io::{self, ErrorKind, Read};
 mod device;
 use device::{device, Device};
 
-/// All numbers of a device, and what else it told.
+/// All numbers of a device, and what else it reported.
 fn read(device: Device<'_>, size: usize) -> (Vec<u16>, Vec<ReadError>) {
     let (mut numbers, mut told) = (vec![], vec![]);
     for item in ColumnReader::with_capacity(size, device, b',', Format::STANDARD) {

@@ -25,7 +25,7 @@ fn comma() -> Dialect<'static> {
     Dialect::separated_by(b',')
 }
 
-/// All rows of a device, by at most `most` a call, and what else it told.
+/// All rows of a device, by at most `most` a call, and what else it reported.
 fn rows_of(
     device: Device<'_>,
     dialect: Dialect<'_>,

@@ -42,7 +42,7 @@ pub(crate) fn join_checked<T: Integer>(
     }
 }
 
-// Takes digits while there are fewer than `most`: no number of so many digits leaves the type, so no step
+// Takes digits while there are fewer than `most`: no number of `most` digits leaves the type, so no step
 // is tested.
 #[inline(always)]
 pub(crate) fn read_untested<T: Integer>(

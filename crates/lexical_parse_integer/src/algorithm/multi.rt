@@ -137,7 +137,7 @@ fn has_room<T: Integer>(digits: usize, most: usize) -> bool
     most >= word && digits <= most - word
 }
 
-// Takes words of digits while there is room for them: no number of so many digits leaves the type.
+// Takes words of digits while there is room for them: no number of `most` digits leaves the type.
 #[inline(always)]
 pub(crate) fn read_words<T: Integer>(
     c: &mut Cursor<'_>,

@@ -109,7 +109,7 @@ fn short_decimal<T: Integer>(
 }
 
 // The complete answer under a decimal format without punctuation, for a text that isn't digits alone behind a minus or none.
-// Most such texts are at fault: the sign is read once, and a fault that is known is told. Zeros in front of a long number are
+// Most such texts are at fault: the sign is read once, and a fault that is known is returned. Zeros in front of a long number are
 // read from the front, which skips them. Out of line, so that a value pays for no `Result`.
 #[inline(never)]
 fn complete_decimal<T: Integer>(bytes: &[u8], format: &NumberFormat) -> Result<T>
@@ -334,7 +334,7 @@ fn complete_plain<T: Integer>(bytes: &[u8], format: &NumberFormat) -> Result<T>
     }
 }
 
-// The complete answer under a valid format with a separator: the text's head is read once, and a fault there is told.
+// The complete answer under a valid format with a separator: the text's head is read once, and a fault there is returned.
 #[inline(never)]
 fn complete_separated<T: Integer>(bytes: &[u8], format: &NumberFormat, separator: u8) -> Result<T>
     requires valid { IsNone (fault format.now) }

@@ -1,4 +1,4 @@
-// What one look at some bytes of a text tells: which of them are separators outside quotes.
+// What one look at some bytes of a text finds: which of them are separators outside quotes.
 ghost use Rattle.std.specs.Prelude.{◌≡◌, ◌==◌, ◌+◌, ◌-◌, ◌%◌, ◌<◌, ◌≤◌, ℕ, false, true, if◌then◌else◌, length, slice_index, take};
 ghost use Rattle.std.specs.Int.{bit_at};
 ghost use Rattle.lexical_tables.specs.Quotes.{has_odd_quotes, quote, seen_at};
@@ -6,7 +6,7 @@ ghost use Rattle.lexical_tables.specs.Quotes.{has_odd_quotes, quote, seen_at};
 use super::parities::odd_to_16;
 use lexical_fields::marks_among_16;
 
-// What a look at sixteen bytes tells: the separators outside quotes and all quotes, a bit for each, and whether what is behind
+// What a look at sixteen bytes finds: the separators outside quotes and all quotes, a bit for each, and whether what is behind
 // stands within quotes.
 #[derive(Copy, Clone)]
 pub(crate) struct Look {

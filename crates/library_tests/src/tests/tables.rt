@@ -361,7 +361,7 @@ fn a_column_of_ones_own_reads_all_cells(rt: HostRuntime) {
     answers(&rt, read_by_own(late), (letter(1, 5), [1, 9, 9, 9, 9, 9]));
 }
 
-// What `put_cell` and `put_standard_cell` put at place 1 for a cell at place 5, and tell of it.
+// What `put_cell` and `put_standard_cell` put at place 1 for a cell at place 5, and return.
 fn put_both(cell: &[u8], ahead: &[u8]) -> [(Option<Error>, [i16; 2]); 2]
     requires front { cell.now ≡ take (length cell.now) ahead.now }
     requires short { length cell.now < 100 }

@@ -117,7 +117,7 @@ const FAULTY: [&[u8]; 15] = [
     b"-128",
 ];
 
-// A format tells the fault of the first rule that it breaks, and refuses every text with it, also where it is strict.
+// A format has the fault of the first rule that it breaks, and refuses every text with it, also where it is strict.
 #[test]
 fn any_broken_rules(rt: HostRuntime) {
     for number in 0..FORMATS {

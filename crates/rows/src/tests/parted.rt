@@ -1,5 +1,5 @@
 // Digits with separators between them: runs at each place of texts of several lengths, under each setting of the flags,
-// at the front of a text and behind a prefix. The reference tells what they stand for.
+// at the front of a text and behind a prefix. The reference says what they stand for.
 use super::compare::{I32, I64, I128, Kind, U8, U32, U64, agrees};
 use super::formats::{
     CONSECUTIVE, INTERNAL, LITERAL_PREFIXES, NO_LEADING_ZEROS, PREFIX, PREFIX_CASE, SEPARATOR,

@@ -20,7 +20,7 @@ fn read_ledger(part: &[u8]) -> ((Vec<i64>, Vec<u8>), Result<Table, TableError>) 
     ((cents, present), answer)
 }
 
-/// Answers the words of a command line, or tells what is wrong.
+/// Answers the words of a command line, or reports what is wrong.
 pub fn run(words: &[OsString], mut output: impl Write) -> Result<(), String> {
     let [path, threads] = words else { return Err("usage: table_threads FILE THREADS".into()) };
     let threads: u8 =

@@ -50,7 +50,7 @@ fn refuses_each_write(
     }
 }
 
-// A run takes so many writes, and tells it if one of them or the flush is refused.
+// A run takes so many writes, and reports it if one of them or the flush is refused.
 fn tells_what_is_refused(
     rt: &impl Abort,
     alloc: Global,
