@@ -203,14 +203,14 @@ def with_bad_rows() -> Iterator[Case]:
     yield skips(b"a,b\n", "0")
     yield skips(b"\xef\xbb\xbfa,\"b\"\n1,2\n\"x\ny\",7x\nc\n1,3\n", "5",
                 'line 4, "b": "7x": invalid digit at byte 1 of the cell',
-                'line 5: too few cells, none for "b"', "2 bad rows")
+                'line 5: too few cells, none for "b"', "bad rows: 2")
     yield skips(b"a,b\n1,2\0\n\n3,\"4", "0",
                 r'line 2, "b": "2\x00": invalid digit at byte 1 of the cell',
                 'line 3: too few cells, none for "b"',
-                r'line 4, "b": "\"4": misplaced quote at byte 0 of the cell', "3 bad rows")
+                r'line 4, "b": "\"4": misplaced quote at byte 0 of the cell', "bad rows: 3")
     yield skips(b"b\n" + b"1\nx\n" * 300000, "300000",
                 *(f'line {2 * k + 3}, "b": "x": invalid digit at byte 0 of the cell'
-                  for k in range(10)), "300000 bad rows")
+                  for k in range(10)), "bad rows: 300000")
     yield from faults(program, {
         b"": "the table has no header",
         b"a\n": 'no column "b": the header has "a"',

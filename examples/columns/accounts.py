@@ -47,7 +47,7 @@ def told(path: str) -> tuple[str, int]:
     """What the command says, and how many bad rows there are."""
     days, cents, bad = entries(path)
     if bad:
-        print(f"{len(bad)} bad rows, the first: {bad[0]}", file=sys.stderr)
+        print(f"bad rows: {len(bad)}, the first: {bad[0]}", file=sys.stderr)
     span = f" from {days[0]} to {days[-1]}" if days else ""
     return f"{len(days)} entries{span}, {Decimal(sum(cents)).scaleb(-2)} in all", len(bad)
 

@@ -10,7 +10,10 @@ import jadvolni
 
 def ask(holds: bool, page: str) -> None:
     """Asks that the words of the command line are right. Else the program's page is printed, and
-    the status is 2."""
+    the status is 2: or 0 where one of them asks for the page."""
+    if {"-h", "--help"}.intersection(sys.argv[1:]):
+        write(f"{page.strip()}\n".encode())
+        sys.exit()
     if not holds:
         print(page.strip(), file=sys.stderr)
         sys.exit(2)

@@ -34,7 +34,7 @@ def told(path: str, names) -> tuple[str, int]:
     """What the command says, and how many bad rows there are."""
     table, bad = columns(path, names)
     sums = [f"{name} {sum(table[name].tolist())}" for name in names]
-    return ", ".join([*sums, f"{bad} bad rows"]), bad
+    return ", ".join([*sums, f"bad rows: {bad}"]), bad
 
 
 def main() -> None:

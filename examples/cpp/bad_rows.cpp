@@ -23,7 +23,7 @@ static column_sum sum_of(const char *name)
         }
         bad_rows = blocks.bad_rows();
     });
-    if (bad_rows > 0) warnx("%zu bad rows", bad_rows);
+    if (bad_rows > 0) warnx("bad rows: %zu", bad_rows);
     return {sum, bad_rows};
 }
 

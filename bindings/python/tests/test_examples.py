@@ -20,7 +20,7 @@ EXAMPLES = pathlib.Path(__file__).resolve().parents[3] / "examples" / "columns"
 COMMANDS = (("ledger.py",), ("records.py",), ("data.py", "c"), ("big_file.py", "3"), ("total.py",))
 # What each reads 3 from.
 CONTENTS = ("a 1\nb 2\n", "  7rent     1  8food     2", "n,c\na,1\nb,2\n", "1\n2\n", "1\n2\n")
-SAID = ("3\n", "3\n", "c 3, 0 bad rows\n", "2 numbers, sum 3\n", "2 numbers, sum 3\n")
+SAID = ("3\n", "3\n", "c 3, bad rows: 0\n", "2 numbers, sum 3\n", "2 numbers, sum 3\n")
 
 
 def answer_of(name, path, *words, **settings):
@@ -429,6 +429,14 @@ class Inputs(Case):
                 path.write_text(content)
                 answer = answer_of(name, path, *words, preexec_fn=lambda: os.close(1))
                 self.assertEqual(answer, (1, "", "standard output is closed\n"))
+
+    def test_words_that_ask_for_the_page(self):
+        for name, *words in (*COMMANDS, ("accounts.py",), ("service.py",), ("copy_binary.py",)):
+            for word in "-h", "--help":
+                with self.subTest(name=name, word=word):
+                    status, output, errors = answer_of(name, word, *words)
+                    self.assertEqual((status, errors), (0, ""))
+                    self.assertIn(f"python3 {name} FILE", output)
 
     def test_words_that_are_none(self):
         for name, *words in (

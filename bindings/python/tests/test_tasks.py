@@ -77,7 +77,7 @@ class Accounts(Task):
             self.assertEqual(len(accounts.by_csv(path)[2]), 2)
             said = "4 entries from 26.11.2026 to 1.12., -1220.45 in all\n"
             self.assertEqual(self.answer("accounts.py", path),
-                             (1, said, f"2 bad rows, the first: FILE, {told}\n"))
+                             (1, said, f"bad rows: 2, the first: FILE, {told}\n"))
 
     def test_amounts_that_csv_takes(self):
         for amount in ("1.2,5", "1e2", " 1,00", "1,005", "1", "1_0,00", "١,00"):
@@ -134,9 +134,9 @@ class Data(Task):
         self.assertEqual(skipped, bad)
         said = ", ".join(f"{name} {sums[name]}" for name in self.NAMES)
         self.assertEqual(self.answer("data.py", path, *self.NAMES),
-                         (1, f"{said}, {bad} bad rows\n", ""))
+                         (1, f"{said}, bad rows: {bad}\n", ""))
         path = self.file("c3,c7,c11,c0,c19\n1,2,3,4,5\n")
-        said = "c3 1, c7 2, c11 3, c0 4, c19 5, 0 bad rows\n"
+        said = "c3 1, c7 2, c11 3, c0 4, c19 5, bad rows: 0\n"
         self.assertEqual(self.answer("data.py", path, *self.NAMES), (0, said, ""))
 
     @unittest.skipUnless(importlib.util.find_spec("pandas"), "there is no pandas")

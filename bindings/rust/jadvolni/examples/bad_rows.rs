@@ -37,7 +37,7 @@ pub fn run(
         writeln!(told, "{fault}")?;
     }
     if rows.bad_rows() > 0 {
-        writeln!(told, "{} bad rows", rows.bad_rows())?;
+        writeln!(told, "bad rows: {}", rows.bad_rows())?;
     }
     writeln!(output, "{sum}")?;
     Ok(rows.bad_rows())

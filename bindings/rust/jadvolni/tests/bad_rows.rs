@@ -258,10 +258,10 @@ fn the_program() {
     assert_eq!(run("b", b"a,b\n1,2\n,-5"), Ok((0, "-3\n".into())));
     let text = b"\xEF\xBB\xBFa,\"b\"\n1,2\n\"x\ny\",7x\nc\n1,3\n";
     let told = "line 4, \"b\": \"7x\": invalid digit at byte 1 of the cell\n\
-        line 5: too few cells, none for \"b\"\n2 bad rows\n5\n";
+        line 5: too few cells, none for \"b\"\nbad rows: 2\n5\n";
     assert_eq!(run("b", text), Ok((2, told.into())));
     let (_, many) = run("a", &[&b"a\n"[..], &b"x\n".repeat(20)].concat()).unwrap();
-    assert!(many.lines().count() == 12 && many.ends_with("\n20 bad rows\n0\n"), "{many}");
+    assert!(many.lines().count() == 12 && many.ends_with("\nbad rows: 20\n0\n"), "{many}");
     assert_eq!(run("c", b"a,b\n"), Err(r#"no column "c": the header has "a", "b""#.into()));
     assert_eq!(run("c", b""), Err("the table has no header".into()));
 }
