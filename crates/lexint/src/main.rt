@@ -5,7 +5,7 @@ pub use answer_lines::{RunError, literals, run, run_from};
 use std::io::IsTerminal;
 use std::process::ExitCode;
 
-/// What a user at a terminal reads before anything is read: nothing is answered before the input ends.
+/// What is shown to a user at a terminal before anything is read: nothing is answered before the input ends.
 const WAITING: &str = "lexint: waiting for lines; Ctrl-D on an empty line ends them";
 
 /// Runs over standard input and output, and ends with status 0. At a fault its message goes to
