@@ -24,9 +24,9 @@ namespace detail {
 // A text with each doubled quote as one.
 inline std::string folded(std::string_view held)
 {
-    std::string told(held.size(), 0);
-    told.resize(jadvolni_fold_quotes(held.data(), held.size(), told.data(), told.size()));
-    return told;
+    std::string text(held.size(), 0);
+    text.resize(jadvolni_fold_quotes(held.data(), held.size(), text.data(), text.size()));
+    return text;
 }
 
 // Makes the places of the texts in a column's first `rows` rows count from `bytes` bytes before what was read. Missing
@@ -164,7 +164,7 @@ private:
         for (std::size_t index = 0; index < count; ++index) {
             auto column = find(wanted[index].name);
             if (column == names_.size()) return;
-            if (is_taken[column]) return fail("the column " + told(wanted[index].name) + " is asked for twice");
+            if (is_taken[column]) return fail("the column " + quoted(wanted[index].name) + " is asked for twice");
             is_taken[column] = true;
             columns_[column] = wanted[index].column;
         }
@@ -220,16 +220,16 @@ private:
                 return static_cast<std::size_t>(first - names_.begin());
             fault = "more than one column ";
         }
-        std::string message = fault + told(name) + ": the header has ";
+        std::string message = fault + quoted(name) + ": the header has ";
         constexpr std::size_t most = 40;
         for (std::size_t index = 0; index < std::min(most, names_.size()); ++index)
-            message += (index ? ", " : "") + told(names_[index]);
+            message += (index ? ", " : "") + quoted(names_[index]);
         if (names_.size() > most) message += " and " + std::to_string(names_.size() - most) + " more";
         return fail(message), names_.size();
     }
 
     // A name in quotes, cut after 40 bytes, but not within a character of UTF-8.
-    static std::string told(std::string_view name)
+    static std::string quoted(std::string_view name)
     {
         std::size_t size = 40;
         while (size < name.size() && (static_cast<unsigned char>(name[size]) & 0xC0) == 0x80) ++size;

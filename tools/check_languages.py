@@ -6,7 +6,7 @@
 For each language it makes random and hostile literals, and asks the language's own compiler or
 interpreter which of them are integers, and of which value. The built program is asked the same,
 under the fields that tools/languages.txt says. Where they differ, a pattern of that file has to
-fit, so that docs/FORMATS.md tells of it; a difference that it doesn't tell is printed, and then the
+fit, so that docs/FORMATS.md lists it; a difference that it doesn't list is printed, and then the
 status is 1. What isn't on the machine is passed over with a sentence. A sign comes first only where
 it belongs to the literal.
 
@@ -161,12 +161,12 @@ def kind_of(our: int | None, their: int | None, bits: int) -> str | None:
 
 
 def is_told(group: Group, kind: str, text: str) -> bool:
-    """Whether docs/FORMATS.md tells of such a difference at a text."""
+    """Whether docs/FORMATS.md lists such a difference at a text."""
     return any(re.fullmatch(pattern, text) for pattern in formats_page.patterns(group, kind))
 
 
 def compared(language: Language, group: Group, name: str, texts: list[str]) -> int:
-    """Prints where a judge and the program differ, and counts what FORMATS.md doesn't tell."""
+    """Prints where a judge and the program differ, and counts what FORMATS.md doesn't list."""
     judge = language.judges[name]
     our, their = ours(group, texts, bool(language.signs)), judge.ask(texts)
     counts: collections.Counter[str] = collections.Counter()
@@ -183,13 +183,13 @@ def compared(language: Language, group: Group, name: str, texts: list[str]) -> i
     read = sum(value is not None for value in their.values())
     told = [f"{counts[kind]} {kind}" for kind in formats_page.HEADINGS if counts[kind]]
     print(f"{language.name}: {name} reads {read} of {len(texts)}; differences that FORMATS.md "
-          f"tells: {', '.join(told) or 'none'}; others: {len(untold)}", flush=True)
+          f"lists: {', '.join(told) or 'none'}; others: {len(untold)}", flush=True)
     print("\n".join(untold[:40]), end="\n" if untold else "")
     return len(untold)
 
 
 def untold_differences(language: Language, group: Group, seed: int, count: int) -> int:
-    """Asks all judges of a language, and counts the differences that FORMATS.md doesn't tell."""
+    """Asks all judges of a language, and counts the differences that FORMATS.md doesn't list."""
     texts = literals(random.Random(f"{seed} {language.name}"), language, count)
     untold = 0
     for name, judge in language.judges.items():

@@ -1,6 +1,6 @@
 // Amounts: fixed-point numbers, in units of the last place.
 
-import { byteOf, flagOf, told } from "./arguments.js";
+import { byteOf, flagOf, described } from "./arguments.js";
 import { FormatError } from "./errors.js";
 import { bytesOfFormat, Format, STANDARD } from "./format.js";
 import { FORMAT, named, putFormat } from "./memory.js";
@@ -36,7 +36,7 @@ export function amountOf(given) {
     return undefined;
   }
   if (!Number.isInteger(places)) {
-    throw new TypeError(`places have to be an integer, and not ${told(places)}`);
+    throw new TypeError(`places have to be an integer, and not ${described(places)}`);
   }
   bytesOfFormat(format);
   const amount = new Uint8Array(48);

@@ -1,14 +1,14 @@
 // What is asked of arguments, and said of wrong ones.
 
 // At most this many characters of a string or a number are shown.
-const TOLD = 40;
+const MOST_SHOWN = 40;
 
 /** What a wrong argument is, in a message. */
-export function told(value) {
+export function described(value) {
   if (["string", "bigint"].includes(typeof value)) {
     const text = String(value);
-    const front = text.slice(0, TOLD);
-    const rest = text.length > TOLD ? " .." : "";
+    const front = text.slice(0, MOST_SHOWN);
+    const rest = text.length > MOST_SHOWN ? " .." : "";
     return typeof value === "string" ? `${JSON.stringify(front)}${rest}` : `${front}${rest || "n"}`;
   }
   if (value === null || !["object", "function", "symbol"].includes(typeof value)) {
@@ -24,14 +24,14 @@ export function byteOf(name, value) {
     return value.charCodeAt(0);
   }
   throw new TypeError(
-    `${name} has to be one ASCII character or a byte from 0 to 255, and not ${told(value)}`,
+    `${name} has to be one ASCII character or a byte from 0 to 255, and not ${described(value)}`,
   );
 }
 
 /** A flag that was given. */
 export function flagOf(name, value = false) {
   if (typeof value === "boolean") return value;
-  throw new TypeError(`${name} has to be true or false, and not ${told(value)}`);
+  throw new TypeError(`${name} has to be true or false, and not ${described(value)}`);
 }
 
 /** What a table has under a name. */
@@ -39,7 +39,7 @@ export function ofTable(table, name, value) {
   const found = table.get(value);
   if (found === undefined) {
     const names = [...table.keys()].join(", ");
-    throw new TypeError(`${name} has to be one of ${names}, and not ${told(value)}`);
+    throw new TypeError(`${name} has to be one of ${names}, and not ${described(value)}`);
   }
   return found;
 }
@@ -48,10 +48,10 @@ export function ofTable(table, name, value) {
  * there are it refuses, and none is taken from a prototype. */
 export function ownFields(whose, given, names, field = "field") {
   if (Object.prototype.toString.call(given) !== "[object Object]") {
-    throw new TypeError(`the ${field}s of ${whose} have to be an object, and not ${told(given)}`);
+    throw new TypeError(`the ${field}s of ${whose} have to be an object, and not ${described(given)}`);
   }
   for (const name of Object.keys(given)) {
-    if (!names.includes(name)) throw new TypeError(`${whose} has no ${field} ${told(name)}`);
+    if (!names.includes(name)) throw new TypeError(`${whose} has no ${field} ${described(name)}`);
   }
   return { __proto__: null, ...given };
 }

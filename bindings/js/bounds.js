@@ -1,7 +1,7 @@
 // Numbers within bounds, with one fault that says the bounds and what was given.
 
 import { writtenAs } from "./amounts.js";
-import { ofTable, told } from "./arguments.js";
+import { ofTable, described } from "./arguments.js";
 import { ParseError } from "./errors.js";
 import { bytesOf } from "./memory.js";
 
@@ -15,7 +15,7 @@ for (const [size, bits] of [["8", 8n], ["16", 16n], ["32", 32n], ["64", 64n], ["
 /** A bound that was given. */
 function boundOf(name, given) {
   if (given === undefined || Number.isSafeInteger(given) || typeof given === "bigint") return given;
-  throw new TypeError(`${name} has to be a safe integer or a bigint, and not ${told(given)}`);
+  throw new TypeError(`${name} has to be a safe integer or a bigint, and not ${described(given)}`);
 }
 
 /** The bounds of a type's numbers, if any are given: its ends where none is, or one beyond them. */
@@ -24,13 +24,13 @@ export function boundsOf(type, given) {
   const [least, greatest] = ofTable(ENDS, "type", type);
   const { min = least, max = greatest } = { min: boundOf("min", given.min), max: boundOf("max", given.max) };
   if (given.min > given.max) {
-    throw new RangeError(`min has to be at most max, and ${told(min)} is more than ${told(max)}`);
+    throw new RangeError(`min has to be at most max, and ${described(min)} is more than ${described(max)}`);
   }
   return { min: min < least ? least : min, max: max > greatest ? greatest : max };
 }
 
 // At most this many bytes of a text are shown.
-const TOLD = 40;
+const MOST_SHOWN = 40;
 
 /** A byte as a message shows it, by its number where it isn't printable ASCII. */
 const shownByte = (byte) =>
@@ -46,9 +46,9 @@ function shownBound(bound, amount) {
 
 /** The fault of a text whose number, or amount, isn't within bounds. */
 export function outOfBounds(text, { min, max }, amount) {
-  const bytes = bytesOf(typeof text === "string" ? text.slice(0, TOLD + 1) : text);
-  const front = Array.from(bytes.subarray(0, TOLD), shownByte).join("");
-  const given = bytes.length > TOLD ? `${front}..` : front;
+  const bytes = bytesOf(typeof text === "string" ? text.slice(0, MOST_SHOWN + 1) : text);
+  const front = Array.from(bytes.subarray(0, MOST_SHOWN), shownByte).join("");
+  const given = bytes.length > MOST_SHOWN ? `${front}..` : front;
   const [from, to] = [shownBound(min, amount), shownBound(max, amount)];
   return new ParseError(`${given} is not from ${from} to ${to}`, "OutOfBounds", 0, { min, max });
 }

@@ -21,7 +21,7 @@ function putCells(start, stop, first, cells) {
   return answer[2];
 }
 
-/** Where a cell is that a call has told, in a row that starts at a place. */
+/** Where a cell is that a call has reported, in a row that starts at a place. */
 const cellAt = (words, index, start) => ({
   start: start + words[WORDS_OF_CELL * index],
   size: words[WORDS_OF_CELL * index + 2],

@@ -9,7 +9,7 @@ import { PIECE } from "./pieces.js";
 import { frontOf, quoted, quotedBytes } from "./shown.js";
 
 // At most this many bytes of a cell are shown. A character's bytes more say how it goes on.
-const TOLD = 40;
+const MOST_SHOWN = 40;
 const LONGEST_CHARACTER = 4;
 
 // Where these are wrong there is no cell.
@@ -18,7 +18,7 @@ const WITHOUT_CELL = ["TooFewCells", "MissingReturn"];
 /** Where the wrong cell of a row is, and its first bytes: none where a cell or the return is missing. */
 function cellOf(bytes, kind, { place, cell }) {
   const { start, size } = WITHOUT_CELL.includes(kind) ? { start: place, size: 0 } : cell;
-  return { start, front: bytes.subarray(start, start + Math.min(size, TOLD + LONGEST_CHARACTER)) };
+  return { start, front: bytes.subarray(start, start + Math.min(size, MOST_SHOWN + LONGEST_CHARACTER)) };
 }
 
 const lineColumn = named("jadvolni_line_column");
@@ -41,8 +41,8 @@ function lineCounter(bytes) {
 function messageOf(kind, said, where, column, cell, place) {
   if (kind === "MissingReturn") return `${where}: ${said}`;
   if (kind === "TooFewCells") return `${where}: ${said}, none for ${column}`;
-  const told = `${where}, ${column}: ${quotedBytes(cell.front, TOLD)}: ${said}`;
-  return kind === "TooManyCells" ? told : `${told} at byte ${place - cell.start} of the cell`;
+  const message = `${where}, ${column}: ${quotedBytes(cell.front, MOST_SHOWN)}: ${said}`;
+  return kind === "TooManyCells" ? message : `${message} at byte ${place - cell.start} of the cell`;
 }
 
 /** Makes the errors of bad rows, one behind the other, whose places count from the start of these bytes. */
@@ -56,7 +56,7 @@ export function errorsOfRows(bytes, how, names) {
     const columnName = names[column];
     const where = how.recordSize === undefined ? `line ${line + 1}` : `row ${row + 1}`;
     const shown = columnName === undefined ? `column ${column + 1}` : quoted(columnName);
-    const text = frontOf(cell.front, TOLD);
+    const text = frontOf(cell.front, MOST_SHOWN);
     return new ParseError(messageOf(kind, said, where, shown, cell, place), kind, place, {
       row, line, column, columnName, rowStart: start, rowStop: endOfRow(bytes, start, how).stop, text,
     });

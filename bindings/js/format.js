@@ -1,6 +1,6 @@
 // Formats: what a text may look like.
 
-import { byteOf, ownFields, told } from "./arguments.js";
+import { byteOf, ownFields, described } from "./arguments.js";
 import { FormatError } from "./errors.js";
 import { FIELDS, LANGUAGES } from "./lists.js";
 import { FORMAT, named, putFormat } from "./memory.js";
@@ -22,7 +22,7 @@ function byteOfField({ name, kind }, value) {
   if (kind === "radix" && Number.isInteger(value)) return value === (value & 255) ? value : 0;
   if (kind === "flag" && typeof value === "boolean") return Number(value);
   const wanted = kind === "flag" ? "true or false" : "an integer";
-  throw new TypeError(`${name} has to be ${wanted}, and not ${told(value)}`);
+  throw new TypeError(`${name} has to be ${wanted}, and not ${described(value)}`);
 }
 
 /** The format as the library has it. Which punctuation is the byte 0 itself, bits behind it say. */
@@ -65,7 +65,7 @@ export class Format {
 export function bytesOfFormat(format) {
   const bytes = format instanceof Format ? bytesWithin(format) : undefined;
   if (bytes === undefined) {
-    throw new TypeError(`format has to be a Format, and not ${told(format)}`);
+    throw new TypeError(`format has to be a Format, and not ${described(format)}`);
   }
   return bytes;
 }

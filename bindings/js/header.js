@@ -1,6 +1,6 @@
 // The header of a table: its first row, which is read by the table's own rules.
 
-import { told } from "./arguments.js";
+import { described } from "./arguments.js";
 import { cellCount, cellsOf, isSkipped } from "./cells.js";
 import { HeaderError } from "./errors.js";
 import { putTableAlone } from "./layout.js";
@@ -74,14 +74,14 @@ export function headerOf(bytes, how, ask, judge) {
 /** Names as a message lists them. */
 function listed(names) {
   const rest = names.length > LISTED ? ` and ${names.length - LISTED} more` : "";
-  return names.slice(0, LISTED).map(told).join(", ") + rest;
+  return names.slice(0, LISTED).map(described).join(", ") + rest;
 }
 
 /** What may be wrong where a header has one column, and no name is found. */
 function hintOf(names, { separator, widths }) {
   const isOther = (it) => names[0].includes(it) && it.charCodeAt(0) !== separator;
   const other = names.length === 1 && widths.length === 0 ? SEPARATORS.find(isOther) : undefined;
-  return other === undefined ? "" : `; separator may have to be ${told(other)}`;
+  return other === undefined ? "" : `; separator may have to be ${described(other)}`;
 }
 
 /** The column that alone has a name. */
@@ -90,5 +90,5 @@ export function columnOf(names, name, how) {
   if (column !== -1 && names.indexOf(name, column + 1) === -1) return column;
   const [kind, count] = column === -1 ? ["Missing", "no"] : ["Doubled", "more than one"];
   const hint = column === -1 ? hintOf(names, how) : "";
-  throw new HeaderError(kind, `${count} column ${told(name)}: the header has ${listed(names)}${hint}`, names);
+  throw new HeaderError(kind, `${count} column ${described(name)}: the header has ${listed(names)}${hint}`, names);
 }

@@ -134,6 +134,6 @@ export function rightRows(size, isLast, { rows, badRows, count }) {
     BigInt(badRows.byteOffset), BigInt(bad));
   const [status, , , , right, , badCount, , place] = answer;
   if (status !== 0) throw memory.otherVersion("it refuses a table");
-  const told = Array.from({ length: Math.min(bad, badCount) }, (_, index) => badRowAt(badRows, index));
-  return { count: right, place, badCount, bad: told };
+  const known = Array.from({ length: Math.min(bad, badCount) }, (_, index) => badRowAt(badRows, index));
+  return { count: right, place, badCount, bad: known };
 }

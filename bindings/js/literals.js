@@ -1,6 +1,6 @@
 // Literals with their suffixes, and with the types that these name.
 
-import { ofTable, told } from "./arguments.js";
+import { ofTable, described } from "./arguments.js";
 import { STANDARD, useFormat } from "./format.js";
 import * as memory from "./memory.js";
 import { NUMBERS, stopOfCall } from "./numbers.js";
@@ -26,7 +26,7 @@ export function parseLiteral(text, options) {
 
 /** A table of suffixes as the library has it, at the end of the memory. */
 function tableOf(suffixes) {
-  if (!areNamed(suffixes)) throw new TypeError(`suffixes have to be an object, and not ${told(suffixes)}`);
+  if (!areNamed(suffixes)) throw new TypeError(`suffixes have to be an object, and not ${described(suffixes)}`);
   const entries = Object.entries(suffixes);
   const types = entries.map(([, type]) => ofTable(NUMBERS_OF_TYPES, "type", type));
   const texts = entries.map(([suffix]) => memory.bytesOf(suffix));

@@ -1,7 +1,7 @@
 // The proved library as a WebAssembly module, and its memory: where a call finds its arguments, and
 // leaves its answer. What is behind `__heap_base` the library never uses, so it is taken for these.
 
-import { told } from "./arguments.js";
+import { described } from "./arguments.js";
 import { JadvolniError } from "./errors.js";
 
 // A module that has a memory with addresses of 64 bits, and nothing else.
@@ -145,7 +145,7 @@ export function lostBytes(name = "text") {
 /** Asks that a text that is no string has bytes. They may be another frame's or context's. */
 function askBytes(text, name) {
   if (!ArrayBuffer.isView(text) || text.BYTES_PER_ELEMENT !== 1) {
-    throw new TypeError(`${name} has to be a string or a Uint8Array, and not ${told(text)}`);
+    throw new TypeError(`${name} has to be a string or a Uint8Array, and not ${described(text)}`);
   }
   if (lengthOf(text) === 0 && hasLostBytes(text)) throw lostBytes(name);
 }

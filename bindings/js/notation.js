@@ -1,7 +1,7 @@
 // How a table is written, and what is read of each column, as a caller gives them.
 
 import { AMOUNT_FIELDS, amountOf } from "./amounts.js";
-import { byteOf, flagOf, ofTable, ownFields, told } from "./arguments.js";
+import { byteOf, flagOf, ofTable, ownFields, described } from "./arguments.js";
 import { bytesOfFormat, STANDARD } from "./format.js";
 import { FLAGS } from "./layout.js";
 import { bytesOf } from "./memory.js";
@@ -41,7 +41,7 @@ export function readOf(column) {
 /** How many bytes a cell has. */
 function widthOf(width) {
   if (Number.isSafeInteger(width) && width >= 0) return BigInt(width);
-  throw new TypeError(`a width has to be a safe integer of 0 or more, and not ${told(width)}`);
+  throw new TypeError(`a width has to be a safe integer of 0 or more, and not ${described(width)}`);
 }
 
 /** The width of each column's cells; none where these stand between separators. If a header gives the number
@@ -53,7 +53,7 @@ function widthsOf({ separator, is_records, widths }, count) {
   }
   if (separator !== undefined) throw new TypeError("a table with widths has no separator");
   if (!Array.isArray(widths)) {
-    throw new TypeError(`widths have to be an array, and not ${told(widths)}`);
+    throw new TypeError(`widths have to be an array, and not ${described(widths)}`);
   }
   const sizes = Array.from(widths, widthOf);
   if (sizes.length !== (count ?? sizes.length) || sizes.length === 0) {
@@ -63,14 +63,14 @@ function widthsOf({ separator, is_records, widths }, count) {
   return sizes;
 }
 
-/** Whether bad rows are skipped, and who is told of each. */
+/** Whether bad rows are skipped, and who receives each. */
 function atFault({ onError = "throw", errors }) {
   const skips = ofTable(SKIPS, "onError", onError);
   if (errors === undefined) return { skips, tell: undefined };
   if (!skips) throw new TypeError('errors has to be left out unless onError is "skip"');
   if (typeof errors === "function") return { skips, tell: (error) => errors(error) };
   if (Array.isArray(errors)) return { skips, tell: (error) => errors.push(error) };
-  throw new TypeError(`errors has to be an array or a function, and not ${told(errors)}`);
+  throw new TypeError(`errors has to be an array or a function, and not ${described(errors)}`);
 }
 
 /** How a table with these columns is written, what stands for a missing number, and what is done at a fault. */

@@ -41,7 +41,7 @@ export function longRow(bytes, start, how, which) {
   return new RangeError(`${which} has more than ${LONGEST_ROW} bytes${quote}`);
 }
 
-/** Reads the next piece of the text, of at most this size. The table is put anew: who was told of errors may
+/** Reads the next piece of the text, of at most this size. The table is put anew: who received errors may
  * have read others. */
 function readPiece(bytes, start, most, reads, how) {
   const laid = putTable(how, reads, how.tell ? WINDOW : 0);
@@ -76,8 +76,8 @@ export function readRows(bytes, first, reads, how, errorOf) {
   let [start, row, badRows] = [first, 0, 0];
   while (start < length) {
     const { arrays, bad, badCount, count, place } = readNext(bytes, start, reads, how);
-    const told = bad.map((it) => badRowOf(it, row, start));
-    const errors = told.map((it) => errorOf(it)); // which may put other bytes into memory
+    const known = bad.map((it) => badRowOf(it, row, start));
+    const errors = known.map((it) => errorOf(it)); // which may put other bytes into memory
     if (!how.skips && errors.length > 0) throw errors[0];
     arrays.forEach((array, index) => array && parts[index].push(partOf(array, reads[index], count, start)));
     start += place;

@@ -1,6 +1,6 @@
 // Tables: the rows of a text, each column into an array of its own.
 
-import { told } from "./arguments.js";
+import { described } from "./arguments.js";
 import { errorsOfRows } from "./faults.js";
 import { columnOf, headerOf } from "./header.js";
 import { TYPES } from "./layout.js";
@@ -45,7 +45,7 @@ function parseByHeader(text, columns, table) {
 export function parseTable(text, columns, table = {}) {
   if (areNamed(columns)) return parseByHeader(text, columns, table);
   if (!Array.isArray(columns)) {
-    throw new TypeError(`columns have to be an array, or an object by names, and not ${told(columns)}`);
+    throw new TypeError(`columns have to be an array, or an object by names, and not ${described(columns)}`);
   }
   const reads = Array.from(columns, readOf);
   const how = tableOf(table, reads.length);
@@ -81,8 +81,8 @@ function hasBadRows() {
   const errors = [];
   const table = { header: true, onError: "skip", errors };
   const { columns, badRows } = parseTable("a,b\n1,2\n3,xy\n5,6\nz,7\n8,9", ["u8", "u8"], table);
-  const told = errors.map((it) => [it.kind, it.row, it.columnName, it.place, it.rowStart, it.text]);
-  return `${columns}|${badRows}|${told}` === "1,5,8,2,6,9|2|InvalidDigit,1,b,10,8,xy,InvalidDigit,3,a,17,17,z";
+  const seen = errors.map((it) => [it.kind, it.row, it.columnName, it.place, it.rowStart, it.text]);
+  return `${columns}|${badRows}|${seen}` === "1,5,8,2,6,9|2|InvalidDigit,1,b,10,8,xy,InvalidDigit,3,a,17,17,z";
 }
 
 /** Whether the module finds tables, columns and bad rows where they are put. */

@@ -1,6 +1,6 @@
 // Columns of texts: where each text stands, and its string as it is asked for.
 
-import { told } from "./arguments.js";
+import { described } from "./arguments.js";
 import * as memory from "./memory.js";
 import { joined, numbersPlace } from "./pieces.js";
 
@@ -16,9 +16,9 @@ export function decoderOf(encoding = "utf-8") {
   try {
     if (typeof encoding === "string") return new TextDecoder(encoding, { ignoreBOM: true });
   } catch {
-    // (it is told below)
+    // (it is refused below)
   }
-  throw new TypeError(`encoding has to be one that TextDecoder has, and not ${told(encoding)}`);
+  throw new TypeError(`encoding has to be one that TextDecoder has, and not ${described(encoding)}`);
 }
 
 /** Bytes with each doubled quote as one. */
@@ -45,7 +45,7 @@ export class TextColumn {
   }
 
   bytesAt(row) {
-    if (!Number.isInteger(row)) throw new TypeError(`row has to be an integer, and not ${told(row)}`);
+    if (!Number.isInteger(row)) throw new TypeError(`row has to be an integer, and not ${described(row)}`);
     const at = row < 0 ? this.length + row : row;
     if (at < 0 || at >= this.length) return undefined;
     if (this.present?.[at] === 0) return null;

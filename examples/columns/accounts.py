@@ -43,7 +43,7 @@ def by_csv(path: str):
     return days, cents, bad
 
 
-def told(path: str) -> tuple[str, int]:
+def summary(path: str) -> tuple[str, int]:
     """What the command says, and how many bad rows there are."""
     days, cents, bad = entries(path)
     if bad:
@@ -55,7 +55,7 @@ def told(path: str) -> tuple[str, int]:
 def main() -> None:
     """The command line."""
     command.ask(len(sys.argv) == 2, __doc__)
-    command.tell(sys.argv[1], told)
+    command.tell(sys.argv[1], summary)
 
 
 if __name__ == "__main__":

@@ -2,7 +2,7 @@
 
     python3 big_file.py FILE [THREADS]
 
-The file is read whole. Its first wrong line is told with its byte, whichever thread was first.
+The file is read whole. Its first wrong line is reported with its byte, whichever thread was first.
 There are 1 to 255 threads.
 """
 
@@ -31,7 +31,7 @@ def read_file(path: str, threads: int):
     return answer.tolist()
 
 
-def told(path: str, threads: int) -> str:
+def summary(path: str, threads: int) -> str:
     """What the command says."""
     numbers = read_file(path, threads)
     return f"{len(numbers)} numbers, sum {sum(numbers)}"
@@ -51,7 +51,7 @@ def main() -> None:
     """The command line."""
     threads = threads_of(sys.argv)
     command.ask(threads > 0, __doc__)
-    command.tell(sys.argv[1], lambda path: told(path, threads))
+    command.tell(sys.argv[1], lambda path: summary(path, threads))
 
 
 if __name__ == "__main__":

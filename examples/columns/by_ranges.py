@@ -113,7 +113,7 @@ def size_of(words) -> int:
         return 0
 
 
-def told(path: str, size: int) -> str:
+def summary(path: str, size: int) -> str:
     """What the command says."""
     from distributed import Client
 
@@ -126,7 +126,7 @@ def main() -> None:
     """The command line."""
     size = size_of(sys.argv)
     command.ask(size > 0, __doc__)
-    command.tell(sys.argv[1], lambda path: told(path, size))
+    command.tell(sys.argv[1], lambda path: summary(path, size))
 
 
 if __name__ == "__main__":

@@ -5,8 +5,9 @@
     psql -c 'COPY ledger (day, cents) FROM STDIN BINARY' < rows
 
 DAY is 0 to 65535, and CENTS may be empty for NULL. The file may be of any size. Its first wrong
-cell is told, the status is 1, and the rows end in one that COPY refuses: it loads none then. Don't
-pipe them into psql all the same: COPY asks for no end, and would load what a killed program wrote.
+cell is reported, the status is 1, and the rows end in one that COPY refuses: it loads none then.
+Don't pipe them into psql all the same: COPY asks for no end, and would load what a killed program
+wrote.
 """
 
 import struct

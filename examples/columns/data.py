@@ -30,7 +30,7 @@ def by_pandas(path: str, names):
     return right.astype("int64"), len(frame) - len(right)
 
 
-def told(path: str, names) -> tuple[str, int]:
+def summary(path: str, names) -> tuple[str, int]:
     """What the command says, and how many bad rows there are."""
     table, bad = columns(path, names)
     sums = [f"{name} {sum(table[name].tolist())}" for name in names]
@@ -40,7 +40,7 @@ def told(path: str, names) -> tuple[str, int]:
 def main() -> None:
     """The command line."""
     command.ask(len(sys.argv) > 2, __doc__)
-    command.tell(sys.argv[1], lambda path: told(path, sys.argv[2:]))
+    command.tell(sys.argv[1], lambda path: summary(path, sys.argv[2:]))
 
 
 if __name__ == "__main__":

@@ -2,7 +2,7 @@
 
     python3 frame.py FILE
 
-CENTS may be empty, and is then missing: NA, and no 0. The first wrong cell is told.
+CENTS may be empty, and is then missing: NA, and no 0. The first wrong cell is reported.
 """
 
 import sys
@@ -13,7 +13,7 @@ import jadvolni
 CELLS = {"day": "u16", "name": None, "cents": jadvolni.Column("i64", may_miss=True)}
 
 
-def told(path: str) -> str:
+def summary(path: str) -> str:
     """What the command says."""
     frame = jadvolni.read_table(path, CELLS, ";").to_pandas()
     cents = frame["cents"]
@@ -23,7 +23,7 @@ def told(path: str) -> str:
 def main() -> None:
     """The command line."""
     command.ask(len(sys.argv) == 2, __doc__)
-    command.tell(sys.argv[1], told)
+    command.tell(sys.argv[1], summary)
 
 
 if __name__ == "__main__":

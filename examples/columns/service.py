@@ -3,8 +3,8 @@
     python3 service.py FILE
 
 A FILE whose name ends in `.json` is an object of JSON, and any other a configuration with a section
-`service`. A number may stand within quotes there. Each wrong one is told by its name, and then the
-status is 1.
+`service`. A number may stand within quotes there. Each wrong one is reported by its name, and the
+status is then 1.
 """
 
 import configparser
@@ -57,7 +57,7 @@ def texts_of(path: str):
     return parser["service"] if "service" in parser else {}
 
 
-def told(path: str) -> str:
+def summary(path: str) -> str:
     """What the command says. ValueError has what is wrong."""
     found, wrong = numbers_of(texts_of(path))
     if wrong:
@@ -68,7 +68,7 @@ def told(path: str) -> str:
 def main() -> None:
     """The command line."""
     command.ask(len(sys.argv) == 2, __doc__)
-    command.tell(sys.argv[1], told)
+    command.tell(sys.argv[1], summary)
 
 
 if __name__ == "__main__":

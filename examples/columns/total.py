@@ -2,7 +2,7 @@
 
     python3 total.py FILE
 
-The first wrong line is told with its line and its byte. Where tqdm is installed, a bar on the
+The first wrong line is reported with its line and its byte. Where tqdm is installed, a bar on the
 terminal says how far a file is read that takes longer than a second.
 """
 
@@ -16,7 +16,7 @@ import jadvolni
 
 @contextlib.contextmanager
 def bar_of(file):
-    """What a bar is told of each block of a file; None where tqdm isn't installed."""
+    """What a bar is called with for each block of a file; None where tqdm isn't installed."""
     try:
         from tqdm import tqdm
     except ImportError:

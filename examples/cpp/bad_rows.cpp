@@ -17,8 +17,8 @@ static column_sum sum_of(const char *name)
             if (!block) errx(1, "%s", columns.named(block.fault()).what());
             for (std::size_t row = 0; row < block.rows(); ++row)
                 if (!add(sum, numbers[row])) errx(1, "the sum leaves the type");
-            auto told = blocks.bad_rows() - block.bad_rows();
-            for (std::size_t k = 0; k < block.bad_rows() && told + k < most; ++k)
+            auto before = blocks.bad_rows() - block.bad_rows();
+            for (std::size_t k = 0; k < block.bad_rows() && before + k < most; ++k)
                 warnx("%s", columns.named(block.fault(bad[k])).what());
         }
         bad_rows = blocks.bad_rows();

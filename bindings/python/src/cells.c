@@ -5,7 +5,7 @@
 #include "core.h"
 
 /* At most this many bytes of a cell are shown; one more says that it goes on. */
-enum { TOLD = 40 };
+enum { MOST_SHOWN = 40 };
 
 /* The bytes of a text from one place to another. */
 typedef struct stretch {
@@ -22,7 +22,7 @@ static stretch cell_of(const char *text, const jadvolni_bad_row *bad, const jadv
                .count <= bad->column)
         return (stretch){bad->place, bad->place};
     size_t start = bad->start + cell.start;
-    return (stretch){start, start + (cell.size < TOLD + 1 ? cell.size : TOLD + 1)};
+    return (stretch){start, start + (cell.size < MOST_SHOWN + 1 ? cell.size : MOST_SHOWN + 1)};
 }
 
 /* Where a row stops, without the empty ones that are skipped behind it: with a block they may not have come. */

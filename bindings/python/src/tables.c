@@ -288,7 +288,7 @@ static PyObject *right_rows_of(const core_state *state, const question *asked, c
     answer = jadvolni_parse_table_skipping(part->bytes, part->len, asked->is_last, &asked->table,
                                            all->capacity, all->columns, (size_t)all->count, bad, room);
     Py_END_ALLOW_THREADS
-    if (room && answer.bad_rows > room) { /* as if the text had ended behind the last one that is told */
+    if (room && answer.bad_rows > room) { /* as if the text had ended behind the last one that is reported */
         answer.rows = bad[room - 1].row - (room - 1);
         answer.place = bad[room - 1].stop;
         answer.bad_rows = room;

@@ -123,7 +123,8 @@ class Skipping(unittest.TestCase):
             head = b"a,b,c,d" + end if header else b""
             parts, bad = one_by_one(text, COLUMNS, (len(head), int(header)), **given)
             wanted = joined(parts)
-            few = {"_WINDOW": chance.choice((1, 9, 1 << 18)), "_TOLD": chance.choice((1, 2, 4096))}
+            few = {"_WINDOW": chance.choice((1, 9, 1 << 18)),
+                   "_MOST_BAD": chance.choice((1, 2, 4096))}
             with mock.patch.dict(sys.modules, {"numpy": None} if turn % 2 else {}), \
                     mock.patch.multiple("jadvolni._reader", **few):
                 for tables, errors in self.ways_of(head + text, header, given):
@@ -209,7 +210,7 @@ class Skipping(unittest.TestCase):
 
     def test_records(self):
         text = b"0112" b"2x" b"33" b"\n0" b"44" b"5"
-        few = {"_WINDOW": 3, "_TOLD": 1}
+        few = {"_WINDOW": 3, "_MOST_BAD": 1}
         with mock.patch.multiple("jadvolni._reader", **few):
             self.records(text)
         self.records(text)

@@ -17,7 +17,7 @@ const ROLES = {
 /** At most this many bytes of a longer text are shown, those around its fault. */
 const SHOWN = 240;
 /** At most this many parts of one role are listed with their places. */
-const TOLD = 8;
+const MOST_SHOWN = 8;
 
 /** The field whose rule an invalid format breaks. */
 const FIELD_OF_RULE = {
@@ -62,10 +62,10 @@ function showText({ bytes, parts, answer }) {
 
 /** The places of parts, as a reader of the rules sees them. */
 function placesOf(parts) {
-  const told = parts.slice(0, TOLD)
+  const shown = parts.slice(0, MOST_SHOWN)
     .map(({ from, to }) => (to - from === 1 ? String(from) : `${from} to ${to - 1}`));
   const isOne = parts.length === 1 && parts[0].to - parts[0].from === 1;
-  return `${isOne ? "byte" : "bytes"} ${told.join(", ")}${parts.length > TOLD ? " .." : ""}`;
+  return `${isOne ? "byte" : "bytes"} ${shown.join(", ")}${parts.length > MOST_SHOWN ? " .." : ""}`;
 }
 
 /** What a rule is about: a part of the text, in its colour, or the answer. */

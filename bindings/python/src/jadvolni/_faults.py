@@ -162,10 +162,10 @@ def _message(fault: Fault, name: object, where: str) -> str:
         return f"{where}: {fault.message}, none for {column}"
     if fault.kind == "MissingReturn":
         return f"{where}: {fault.message}"
-    told = f"{where}, {column}: {_shown(fault.text)}: {fault.message}"
+    message = f"{where}, {column}: {_shown(fault.text)}: {fault.message}"
     if fault.kind == "TooManyCells":
-        return told
-    return f"{told} at byte {fault.place - fault.cell} of the cell"
+        return message
+    return f"{message} at byte {fault.place - fault.cell} of the cell"
 
 
 def error_of(fault: Fault, names: Sequence[Any], has_records: bool, source: str) -> ParseError:
@@ -173,8 +173,8 @@ def error_of(fault: Fault, names: Sequence[Any], has_records: bool, source: str)
     with the file's name, if `source` has one."""
     name = names[fault.column] if fault.column < len(names) else None
     where = f"row {fault.row + 1}" if has_records else f"line {fault.line + 1}"
-    told = _message(fault, name, f"{source}, {where}" if source else where)
-    error = ParseError(told + fault.hint)
+    message = _message(fault, name, f"{source}, {where}" if source else where)
+    error = ParseError(message + fault.hint)
     error.kind, error.place, error.line = fault.kind, fault.place, fault.line
     error.row, error.column, error.name = fault.row, fault.column, name
     error.row_start, error.row_stop = fault.row_start, fault.row_stop

@@ -67,12 +67,12 @@ class _Rest:
         """Raises ValueError if the row is too long. It names the quote that may be the reason."""
         if len(self.bytes) <= self.size:
             return
-        told = f"the row at byte {self.start} has more than {self.size} bytes"
+        message = f"the row at byte {self.start} has more than {self.size} bytes"
         line = self.bytes.find(b"\n")
         quote = self.bytes.rfind(b'"', 0, line if line >= 0 else None)
         if self.reader.has_quotes and not self.reader.record and (line >= 0 or self.is_within):
-            told += f": the quote at byte {self.start + quote} may lack the one that closes it"
-        raise ValueError(told)
+            message += f": the quote at byte {self.start + quote} may lack the one that closes it"
+        raise ValueError(message)
 
 
 def whole_rows(

@@ -171,8 +171,8 @@ def _listed(names: Sequence[str]) -> str:
 
 def _hint(names: Sequence[str], missing: Sequence[str], how: How) -> str:
     """What a message says of why a header may lack names."""
-    if told := hint_at(names[0].encode("utf-8", "surrogateescape")):
-        return told
+    if hint := hint_at(names[0].encode("utf-8", "surrogateescape")):
+        return hint
     if not how.allows_blanks and {name.strip(" \t") for name in names}.issuperset(missing):
         return "; allows_blanks may have to be True"
     separator = byte_of(b"," if how.separator is None else how.separator)

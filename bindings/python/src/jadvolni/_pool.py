@@ -21,7 +21,7 @@ def _answer(call: _Call) -> None:
     future, function, given = call
     try:
         future.set_result(function(*given))
-    except BaseException as error:  # (who waits for the answer is told)
+    except BaseException as error:  # (who waits for the answer receives it)
         future.set_exception(error)
 
 

@@ -57,7 +57,7 @@ class How(NamedTuple):
 
 # Where bad rows are reported, this many bytes are read at once, and at most this many errors kept.
 _WINDOW = 1 << 18
-_TOLD = 4096
+_MOST_BAD = 4096
 
 
 def ask_type(name: str, value: object, kind: Any, wanted: str) -> None:
@@ -110,7 +110,7 @@ class Reader:
         self.record = min(max(sum(sizes), 1), sys.maxsize) if how.is_records else 0
         self.at_fault = at
         # How many bad rows are reported at once, or -1 if the first ends the reading.
-        self.told = -1 if not at.skips else _TOLD if at.tell else 0
+        self.most_bad = -1 if not at.skips else _MOST_BAD if at.tell else 0
         # Whether each row is a line, and each line a row.
         self.is_by_lines = not (self.has_quotes or how.skips_empty_rows or self.record)
         # A row has at least this many bytes, unless it is the last: its cells and a line feed.
@@ -143,35 +143,35 @@ class Reader:
         arrays: dict[str, Any],
         at: int,
         rows: int,
-        told: int = -1,
+        most_bad: int = -1,
     ) -> tuple[int, int, int, tuple[tuple[Any, ...], ...], bool]:
         """Reads at most `rows` rows of a text, from a place on, into the arrays from row `at` on.
 
         Returns how many good rows there were, the length of all rows in bytes, how many bad ones
         were skipped, the faults that are reported, and whether no further row follows.
 
-        With `told` -1, the first bad row is reported, and ends the reading. Otherwise bad rows are
-        skipped, and at most `told` reported; the next call goes on after them.
+        With `most_bad` -1, the first bad row is reported, and ends the reading. Otherwise bad rows
+        are skipped, and at most `most_bad` reported; the next call goes on after them.
         """
         read = {name: (*pair_of(arrays[name]), it.type, it.format, _data_of(arrays[name]))
                 for name, it in self.read.items()}
         columns = tuple(map(read.get, self.cells))
-        if told <= 0:
+        if most_bad <= 0:
             found = _parse_table(text, place, sys.maxsize, True, self.how, columns, at, rows,
-                                 told)
+                                 most_bad)
             return *found, found[0] < rows
         size, window = _text_size(text), _WINDOW
         while True:
             to = min(place + window, size)
             count, length, bad, faults = _parse_table(
-                text, place, to, to == size, self.how, columns, at, rows, told)
+                text, place, to, to == size, self.how, columns, at, rows, most_bad)
             if length or to == size:
-                return count, length, bad, faults, to == size and count < rows and bad < told
+                return count, length, bad, faults, to == size and count < rows and bad < most_bad
             window *= 2
 
-    def fault(self, told: tuple[Any, ...], text: Text, part: Part, row: int) -> Fault:
+    def fault(self, known: tuple[Any, ...], text: Text, part: Part, row: int) -> Fault:
         """A fault in a part of a text or file, of which `row` rows were read before."""
-        fault = Fault(*told)
+        fault = Fault(*known)
         if fault.row_start == 0:
             fault = fault._replace(hint=hint_at(text))
         lines = row + fault.row if self.is_by_lines else part.lines_before(text, fault.place)

@@ -78,9 +78,9 @@ class Rows:
 
     def _parse(self, text: Text, place: int, part: Part, rows: int) -> tuple[int, bool]:
         """Reads at most `rows` rows. Returns their length in bytes, and whether that is all."""
-        told = self.reader.told - len(self.kept) if self.kept else self.reader.told
+        most_bad = self.reader.most_bad - len(self.kept) if self.kept else self.reader.most_bad
         count, length, bad, faults, is_end = self.reader.parse(
-            text, place, self.arrays, self.count, rows, told)
+            text, place, self.arrays, self.count, rows, most_bad)
         if faults:
             self._tell([self.reader.fault(it, text, part, self.end) for it in faults])
         self.count, self.bad, self.size = self.count + count, self.bad + bad, self.size + length

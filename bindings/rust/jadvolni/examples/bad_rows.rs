@@ -16,7 +16,7 @@ pub fn run(
     name: &str,
     input: impl Read,
     mut output: impl Write,
-    mut told: impl Write,
+    mut reports: impl Write,
 ) -> Result<usize, Box<dyn Error>> {
     let mut rows = TableReader::new(input, Dialect::separated_by(b',').has_quotes(true));
     let header = rows.header()?;
@@ -34,10 +34,10 @@ pub fn run(
         sum += numbers[..count].iter().map(|number| i128::from(*number)).sum::<i128>();
     }
     for fault in &faults {
-        writeln!(told, "{fault}")?;
+        writeln!(reports, "{fault}")?;
     }
     if rows.bad_rows() > 0 {
-        writeln!(told, "bad rows: {}", rows.bad_rows())?;
+        writeln!(reports, "bad rows: {}", rows.bad_rows())?;
     }
     writeln!(output, "{sum}")?;
     Ok(rows.bad_rows())

@@ -152,18 +152,18 @@ pub fn parse_table_part_skipping<'b>(
 ) -> Result<Skipping<'b>, TableError> {
     let text = text.as_ref();
     // SAFETY: as of `parse_table_part`, and `bad` is a slice that is this call's alone, of the library's structs.
-    let told = unsafe {
+    let answer = unsafe {
         let (first, room) = (bad.as_mut_ptr().cast(), bad.len());
         call_on_rows!(jadvolni_parse_table_skipping(text, is_last, dialect, columns, first, room))
     };
-    match Error::of(sys::jadvolni_result { status: told.status, place: told.place }) {
+    match Error::of(sys::jadvolni_result { status: answer.status, place: answer.place }) {
         None => Ok(Skipping {
-            rows: told.rows,
-            bad_rows: told.bad_rows,
-            bad: &bad[..told.bad_rows.min(bad.len())],
-            stop: told.place,
+            rows: answer.rows,
+            bad_rows: answer.bad_rows,
+            bad: &bad[..answer.bad_rows.min(bad.len())],
+            stop: answer.place,
         }),
-        Some(error) => Err(TableError { row: told.rows, column: told.column, error }),
+        Some(error) => Err(TableError { row: answer.rows, column: answer.column, error }),
     }
 }
 
@@ -186,10 +186,10 @@ pub fn row_place(
 ) -> Result<Range<usize>, Error> {
     let text = text.as_ref();
     // SAFETY: the pointers are those of a slice with its length, and of a borrowed dialect.
-    let told =
+    let answer =
         unsafe { sys::jadvolni_row_place(text.as_ptr().cast(), text.len(), &dialect.0, row) };
-    match Error::of(sys::jadvolni_result { status: told.status, place: 0 }) {
-        None => Ok(told.start..told.stop),
+    match Error::of(sys::jadvolni_result { status: answer.status, place: 0 }) {
+        None => Ok(answer.start..answer.stop),
         Some(error) => Err(error),
     }
 }

@@ -162,10 +162,10 @@ impl Error {
     /// ```
     /// use jadvolni::{parse_column, Position};
     /// let (text, mut values) = ("12\n7x\n", [0u8; 4]);
-    /// let told = parse_column(text, b'\n', &mut values).unwrap_err();
-    /// let position = told.position(text).unwrap();
+    /// let error = parse_column(text, b'\n', &mut values).unwrap_err();
+    /// let position = error.position(text).unwrap();
     /// assert_eq!(position, Position { line: 1, column: 1 });
-    /// assert_eq!(format!("{position}: {}", told.error().message()), "line 2, column 2: invalid digit");
+    /// assert_eq!(format!("{position}: {}", error.error().message()), "line 2, column 2: invalid digit");
     /// ```
     pub fn position(&self, text: impl AsRef<[u8]>) -> Option<Position> {
         self.place().map(|place| Position::of(text, place))

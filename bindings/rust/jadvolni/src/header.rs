@@ -20,8 +20,8 @@ use std::vec::Vec;
 pub(crate) const BYTE_ORDER_MARK: &[u8] = b"\xEF\xBB\xBF";
 
 /// How many names of a header a message lists, and how many characters of each.
-const NAMES_TOLD: usize = 40;
-const NAME_TOLD: usize = 40;
+const NAMES_SHOWN: usize = 40;
+const NAME_SHOWN: usize = 40;
 
 /// Why columns can't be found by their names.
 #[derive(Debug, Clone, PartialEq, Eq)]
@@ -61,19 +61,19 @@ impl HeaderError {
 
 /// Names as a message lists them: each in quotes, and cut if they are long or too many.
 fn listed(f: &mut fmt::Formatter<'_>, names: &[String]) -> fmt::Result {
-    for (index, name) in names.iter().take(NAMES_TOLD).enumerate() {
+    for (index, name) in names.iter().take(NAMES_SHOWN).enumerate() {
         f.write_str(if index > 0 { ", " } else { "" })?;
-        told(f, name)?;
+        put_name(f, name)?;
     }
-    match names.len().saturating_sub(NAMES_TOLD) {
+    match names.len().saturating_sub(NAMES_SHOWN) {
         0 => Ok(()),
         more => write!(f, " and {more} more"),
     }
 }
 
 /// A name in quotes, cut if it is long.
-pub(crate) fn told(f: &mut fmt::Formatter<'_>, name: &str) -> fmt::Result {
-    match name.char_indices().nth(NAME_TOLD) {
+pub(crate) fn put_name(f: &mut fmt::Formatter<'_>, name: &str) -> fmt::Result {
+    match name.char_indices().nth(NAME_SHOWN) {
         Some((end, _)) => write!(f, "{:?} ..", &name[..end]),
         None => write!(f, "{name:?}"),
     }
@@ -87,19 +87,19 @@ impl fmt::Display for HeaderError {
             HeaderError::Invalid(error) => write!(f, "the header is no row: {error}"),
             HeaderError::Missing { name, header } => {
                 f.write_str("no column ")?;
-                told(f, name)?;
+                put_name(f, name)?;
                 f.write_str(": the header has ")?;
                 listed(f, header)
             }
             HeaderError::Doubled { name, header } => {
                 f.write_str("more than one column ")?;
-                told(f, name)?;
+                put_name(f, name)?;
                 f.write_str(": the header has ")?;
                 listed(f, header)
             }
             HeaderError::AskedTwice(name) => {
                 f.write_str("the column ")?;
-                told(f, name)?;
+                put_name(f, name)?;
                 f.write_str(" is asked for twice")
             }
         }
@@ -218,8 +218,8 @@ impl Header {
     /// let mut columns = header.columns([("cents", TableColumn::of(&mut cents))])?;
     /// assert_eq!(parse_table(&text[header.stop()..], &comma, &mut columns)?.rows, 1);
     /// assert_eq!(cents[0], -80000);
-    /// let told = header.columns([("cent", TableColumn::UNREAD)]).unwrap_err();
-    /// assert_eq!(told.to_string(), r#"no column "cent": the header has "day", "what", "cents""#);
+    /// let error = header.columns([("cent", TableColumn::UNREAD)]).unwrap_err();
+    /// assert_eq!(error.to_string(), r#"no column "cent": the header has "day", "what", "cents""#);
     /// # Ok::<(), Box<dyn std::error::Error>>(())
     /// ```
     pub fn columns<'a, N: AsRef<str>>(
@@ -309,8 +309,8 @@ impl<'a> Columns<'a> {
         bad: &'b mut [BadRow],
     ) -> Result<Skipping<'b>, TableError> {
         let (start, rows) = (self.header.stop, text.as_ref().get(self.header.stop..));
-        let told = parse_table_skipping(rows.unwrap_or(&[]), dialect, &mut self.columns, bad)?;
-        let Skipping { rows, bad_rows, stop, .. } = told;
+        let read = parse_table_skipping(rows.unwrap_or(&[]), dialect, &mut self.columns, bad)?;
+        let Skipping { rows, bad_rows, stop, .. } = read;
         self.move_texts(rows, 0);
         let room = bad_rows.min(bad.len());
         let bad = &mut bad[..room];

@@ -129,9 +129,9 @@ impl<R: Read, T: ColumnInteger> ColumnReader<R, T> {
     /// Parses the first `whole` bytes, which are whole fields, and keeps the others.
     fn parse(&mut self, whole: usize) -> Result<(), ReadError> {
         let text = &self.block[..whole];
-        let told = parse_column_with_format(text, self.separator, &self.format, &mut self.numbers);
+        let read = parse_column_with_format(text, self.separator, &self.format, &mut self.numbers);
         self.given = 0;
-        self.count = match told {
+        self.count = match read {
             Ok(column) => column.count,
             Err(ColumnError::InvalidField { field, start, error }) => {
                 self.has_ended = true;

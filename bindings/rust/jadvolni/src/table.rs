@@ -189,9 +189,9 @@ impl core::error::Error for TableError {}
 /// let mut columns = [TableColumn::of(&mut days), TableColumn::UNREAD, TableColumn::of(&mut cents)];
 /// let read = parse_table("1;rent;-80000\r\n365;;7\r\n", &ledger, &mut columns);
 /// assert_eq!(read, Ok(Table { rows: 2, stop: 23 }));
-/// let told = parse_table("1;rent;-80000\r\n2;;x\r\n", &ledger, &mut columns).unwrap_err();
-/// assert_eq!(told, TableError { row: 1, column: 2, error: Error::InvalidDigit(18) });
-/// assert_eq!(told.to_string(), "invalid digit at byte 18, in row 2, column 3");
+/// let error = parse_table("1;rent;-80000\r\n2;;x\r\n", &ledger, &mut columns).unwrap_err();
+/// assert_eq!(error, TableError { row: 1, column: 2, error: Error::InvalidDigit(18) });
+/// assert_eq!(error.to_string(), "invalid digit at byte 18, in row 2, column 3");
 /// assert_eq!((days, cents), ([1, 2, 0], [-80000, 7, 0]));
 /// ```
 pub fn parse_table(
@@ -224,9 +224,9 @@ pub fn parse_table_part(
     let text = text.as_ref();
     // SAFETY: the pointers are those of slices with their lengths, and of a borrowed dialect. Each array is a slice
     // that its column has borrowed alone, and a column is the library's struct.
-    let told = unsafe { call_on_rows!(jadvolni_parse_table(text, is_last, dialect, columns)) };
-    match Error::of(sys::jadvolni_result { status: told.status, place: told.place }) {
-        None => Ok(Table { rows: told.rows, stop: told.place }),
-        Some(error) => Err(TableError { row: told.rows, column: told.column, error }),
+    let answer = unsafe { call_on_rows!(jadvolni_parse_table(text, is_last, dialect, columns)) };
+    match Error::of(sys::jadvolni_result { status: answer.status, place: answer.place }) {
+        None => Ok(Table { rows: answer.rows, stop: answer.place }),
+        Some(error) => Err(TableError { row: answer.rows, column: answer.column, error }),
     }
 }

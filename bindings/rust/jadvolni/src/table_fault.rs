@@ -142,7 +142,7 @@ impl TableFault {
     fn put_column(&self, f: &mut fmt::Formatter<'_>) -> fmt::Result {
         #[cfg(feature = "std")]
         if let Some(name) = &self.name {
-            return crate::header::told(f, name);
+            return crate::header::put_name(f, name);
         }
         write!(f, "column {}", self.column.saturating_add(1))
     }

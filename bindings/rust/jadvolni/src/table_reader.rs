@@ -212,16 +212,16 @@ impl<'a, R: Read> TableReader<'a, R> {
     /// ```
     /// use jadvolni::{CellText, Dialect, TableColumn, TableReader};
     /// let mut rows = TableReader::with_capacity(9, &b"1,rent\n2,food\n"[..], Dialect::separated_by(b','));
-    /// let (mut purposes, mut told) = ([CellText::NONE; 9], vec![]);
+    /// let (mut purposes, mut texts) = ([CellText::NONE; 9], vec![]);
     /// loop {
     ///     let mut columns = [TableColumn::UNREAD, TableColumn::of_texts(&mut purposes)];
     ///     let count = rows.read(&mut columns)?;
     ///     if count == 0 {
     ///         break;
     ///     }
-    ///     told.extend(purposes[..count].iter().map(|purpose| purpose.of(rows.block()).to_vec()));
+    ///     texts.extend(purposes[..count].iter().map(|purpose| purpose.of(rows.block()).to_vec()));
     /// }
-    /// assert_eq!(told, [b"rent", b"food"]);
+    /// assert_eq!(texts, [b"rent", b"food"]);
     /// # Ok::<(), jadvolni::TableReadError>(())
     /// ```
     pub fn block(&self) -> &[u8] {
@@ -243,12 +243,12 @@ impl<'a, R: Read> TableReader<'a, R> {
         let text = &self.block[self.parsed..self.filled];
         let (is_last, dialect) = (self.is_last, &self.dialect);
         let (rows, bad_rows, stop) = loop {
-            let told = parse_table_part_skipping(text, is_last, dialect, columns, &mut self.bad);
-            match told.map(|told| (told.rows, told.bad_rows, told.stop)) {
-                Ok(told) if told.1 <= self.bad.len() => break told,
+            let read = parse_table_part_skipping(text, is_last, dialect, columns, &mut self.bad);
+            match read.map(|read| (read.rows, read.bad_rows, read.stop)) {
+                Ok(read) if read.1 <= self.bad.len() => break read,
                 // Once there is room for all of them, the same call gives the same rows.
-                Ok(told) => {
-                    let room = told.1.max(self.bad.len().saturating_mul(2));
+                Ok(read) => {
+                    let room = read.1.max(self.bad.len().saturating_mul(2));
                     grow(&mut self.bad, room, BadRow::NONE).map_err(TableReadError::Io)?;
                 }
                 Err(error) => return Err(self.failed(error)),

@@ -39,10 +39,10 @@ impl<T: Debug + Display> core::error::Error for WithinError<T> {}
 /// ```
 /// use jadvolni::parse_within;
 /// assert_eq!(parse_within("8080", 1..=65535u16), Ok(8080));
-/// let told = |text| parse_within(text, 1..=65535u16).unwrap_err().to_string();
-/// assert_eq!(told("70000"), "70000 is not from 1 to 65535");
-/// assert_eq!(told("-1"), "-1 is not from 1 to 65535");
-/// assert_eq!(told("80a"), "invalid digit at byte 2");
+/// let message = |text| parse_within(text, 1..=65535u16).unwrap_err().to_string();
+/// assert_eq!(message("70000"), "70000 is not from 1 to 65535");
+/// assert_eq!(message("-1"), "-1 is not from 1 to 65535");
+/// assert_eq!(message("80a"), "invalid digit at byte 2");
 /// ```
 pub fn parse_within<T: Integer + PartialOrd>(
     text: impl AsRef<[u8]>,

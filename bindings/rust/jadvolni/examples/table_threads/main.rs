@@ -25,8 +25,8 @@ pub fn run(words: &[OsString], mut output: impl Write) -> Result<(), String> {
     let [path, threads] = words else { return Err("usage: table_threads FILE THREADS".into()) };
     let threads: u8 =
         parse(threads.as_encoded_bytes()).map_err(|error| format!("THREADS: {error}"))?;
-    let told = |why: &dyn ToString| format!("{}: {}", path.to_string_lossy(), why.to_string());
-    let text = fs::read(path).map_err(|error| told(&error))?;
+    let message = |why: &dyn ToString| format!("{}: {}", path.to_string_lossy(), why.to_string());
+    let text = fs::read(path).map_err(|error| message(&error))?;
     let (blocks, whole) = read_in_threads(&text, true, threads.into(), read_ledger);
     let rows = whole
         .map_err(|error| format!("{}, {}", path.to_string_lossy(), error.in_text(&text, &LEDGER)))?
@@ -43,8 +43,8 @@ fn main() -> ExitCode {
     let words: Vec<OsString> = env::args_os().skip(1).collect();
     match run(&words, io::stdout()) {
         Ok(()) => ExitCode::SUCCESS,
-        Err(told) => {
-            eprintln!("{told}");
+        Err(message) => {
+            eprintln!("{message}");
             ExitCode::FAILURE
         }
     }
