@@ -17,10 +17,13 @@ import unittest
 
 EXAMPLES = pathlib.Path(__file__).resolve().parents[3] / "examples" / "columns"
 # Each example with the words after its file.
-COMMANDS = (("ledger.py",), ("records.py",), ("data.py", "c"), ("big_file.py", "3"), ("total.py",))
+COMMANDS = (("ledger.py",), ("records.py",), ("data.py", "c"), ("big_file.py", "3"), ("total.py",),
+            ("to_sqlite.py", ":memory:"))
 # What each reads 3 from.
-CONTENTS = ("a 1\nb 2\n", "  7rent     1  8food     2", "n,c\na,1\nb,2\n", "1\n2\n", "1\n2\n")
-SAID = ("3\n", "3\n", "c 3, bad rows: 0\n", "2 numbers, sum 3\n", "2 numbers, sum 3\n")
+CONTENTS = ("a 1\nb 2\n", "  7rent     1  8food     2", "n,c\na,1\nb,2\n", "1\n2\n", "1\n2\n",
+            "1;a;2\n2;b;\n")
+SAID = ("3\n", "3\n", "c 3, bad rows: 0\n", "2 numbers, sum 3\n", "2 numbers, sum 3\n",
+        "2 rows\n")
 
 
 def answer_of(name, path, *words, **settings):
@@ -297,7 +300,7 @@ class BigFile(Case):
             (b"1\r2", (1, "", "line 1, byte 1: InvalidDigit\n")),
             (b"1\0\n2\n", (1, "", "line 1, byte 1: InvalidDigit\n")),
         ):
-            for name, *words in COMMANDS[3:]:
+            for name, *words in COMMANDS[3:5]:
                 with self.subTest(name=name, content=content[:40]):
                     self.assertEqual(self.answer(name, content, *words), answer)
 
@@ -444,6 +447,7 @@ class Inputs(Case):
             ("records.py", "more"),
             ("data.py",),
             ("accounts.py", "more"),
+            ("to_sqlite.py",),
             ("service.py", "more"),
             ("big_file.py", "0"),
             ("big_file.py", "²"),

@@ -30,7 +30,9 @@ def sparse_list(values):
     """The numbers of a Sparse, whose missing ones have to be 0."""
     pairs = list(zip(values.numbers.tolist(), values.present, strict=True))
     assert all(present or number == 0 for number, present in pairs)
-    return [number if present else None for number, present in pairs]
+    found = values.tolist()
+    assert found == [number if present else None for number, present in pairs]
+    return found
 
 
 def rows_of(file, **given):

@@ -1,10 +1,12 @@
 """Tests of the examples of users' tasks: beside what one writes else, and as commands."""
 
+import contextlib
 import importlib.util
 import inspect
 import os
 import pathlib
 import random
+import sqlite3
 import subprocess
 import sys
 import tempfile
@@ -219,6 +221,42 @@ class Service(Task):
 
     def test_how_long_it_is(self):
         self.assertLessEqual(lines_of(service.numbers_of), 10)
+
+
+class ToSqlite(Task):
+    """to_sqlite.py."""
+
+    def rows(self, path):
+        """The rows of a database's table."""
+        with contextlib.closing(sqlite3.connect(path)) as database:
+            return database.execute("SELECT * FROM ledger").fetchall()
+
+    def test_rows(self):
+        database = str(self.folder / "database")
+        path = self.file("1;rent;-80000\n65535;caf\u00e9;\n")
+        self.assertEqual(self.answer("to_sqlite.py", path, database), (0, "2 rows\n", ""))
+        found = [(1, "rent", -80000), (65535, "caf\u00e9", None)]
+        self.assertEqual(self.rows(database), found)
+        long = self.file("7;a;-9223372036854775808\n" * 250_000)
+        self.assertEqual(self.answer("to_sqlite.py", long, database), (0, "250000 rows\n", ""))
+        self.assertEqual(self.rows(database), found + [(7, "a", -2**63)] * 250_000)
+
+    def test_a_fault_loads_nothing(self):
+        database = str(self.folder / "database")
+        path = self.file("1;a;1\n" * 250_000 + "2;b;x\n")
+        told = 'FILE, line 250001, "cents": "x": invalid digit at byte 0 of the cell\n'
+        self.assertEqual(self.answer("to_sqlite.py", path, database), (1, "", told))
+        self.assertEqual(self.rows(database), [])
+
+    def test_a_database_that_is_none(self):
+        for folder in self.folder, self.folder / "none" / "database":
+            path = self.file("1;a;1\n")
+            status, output, errors = self.answer("to_sqlite.py", path, str(folder))
+            self.assertEqual((status, output), (1, ""))
+            self.assertRegex(errors, "unable to open database file\n$")
+        path = self.file("1;a;1\n")
+        status, _, errors = self.answer("to_sqlite.py", path, path)
+        self.assertEqual((status, errors), (1, "FILE: file is not a database\n"))
 
 
 if __name__ == "__main__":

@@ -33,6 +33,11 @@ class Sparse(NamedTuple):
         bits = numpy.asarray(self.bits)
         return numpy.unpackbits(bits, count=count, bitorder="little").view(bool)
 
+    def tolist(self) -> list[Optional[int]]:
+        """The numbers as a list, with None where one is missing."""
+        pairs = zip(self.numbers.tolist(), self.present)
+        return [number if is_there else None for number, is_there in pairs]
+
     def to_numpy(self) -> numpy.ma.MaskedArray[Any, Any]:
         """The numbers as a masked array over the same memory; the mask is set where one is missing.
 
