@@ -3,6 +3,8 @@
 ghost use Rattle.std.specs.Prelude.{◌≡◌, IsTrue};
 ghost use Rattle.lexical_parse_integer.specs.Answer.{with_place, view_of};
 ghost use Rattle.lexical_util.specs.Format.{standard};
+ghost use Rattle.lexical_util.specs.Kind.{kind_of};
+ghost use Rattle.lexical_util.specs.declared.format.kind.FormatKind.TheVariants.{Decimal, Other};
 ghost use Rattle.jadvolni.specs.Effect.{effect, complete_effect, partial_effect};
 ghost use Rattle.jadvolni.specs.Effect.{complete_call, complete_call_under, partial_call, partial_call_under};
 ghost use Rattle.jadvolni.specs.Effect.{front_call, front_call_under};
@@ -89,7 +91,60 @@ pub(crate) const UNKNOWN: Outcome = Outcome {
     place: 0,
 };
 
-// The whole text, under a format that is made field by field: a plain decimal one has been asked for a short text.
+// The whole text, under a decimal format without punctuation, where it isn't short digits.
+#[inline(never)]
+fn complete_of_decimal<T: FromLexicalWithOptions<Options = Options>, S: Slot<T>>(
+    text: &[u8],
+    fields: &FormatFields,
+    value: &mut S,
+) -> Outcome
+    requires known { IsTrue (are_known fields.now) }
+    requires kind { kind_of (format_of fields.now) ≡ Decimal }
+    ensures { effect result (S.number value.new)
+        ≡ complete_call_under fields.now T.TYPE text.now (S.number value.old) }
+{
+    if fields.is_standard() {
+        return complete_any::<T, S>(text, value);
+    }
+    store(
+        complete_if_valid::<T>(text, &fields.decimal_format()),
+        text.len(),
+        value,
+    )
+}
+
+// The whole text, under a format with punctuation.
+#[inline(never)]
+fn complete_of_other<T: FromLexicalWithOptions<Options = Options>, S: Slot<T>>(
+    text: &[u8],
+    fields: &FormatFields,
+    value: &mut S,
+) -> Outcome
+    requires known { IsTrue (are_known fields.now) }
+    requires kind { kind_of (format_of fields.now) ≡ Other }
+    ensures { effect result (S.number value.new)
+        ≡ complete_call_under fields.now T.TYPE text.now (S.number value.old) }
+{
+    let answer = complete_if_valid::<T>(text, &fields.other_format());
+    store(answer, text.len(), value)
+}
+
+// The whole text, under any format: a rare one, whose kind has to be found.
+#[inline(never)]
+fn complete_of_rare<T: FromLexicalWithOptions<Options = Options>, S: Slot<T>>(
+    text: &[u8],
+    fields: &FormatFields,
+    value: &mut S,
+) -> Outcome
+    requires known { IsTrue (are_known fields.now) }
+    ensures { effect result (S.number value.new)
+        ≡ complete_call_under fields.now T.TYPE text.now (S.number value.old) }
+{
+    let answer = complete_if_valid::<T>(text, &fields.rare_format());
+    store(answer, text.len(), value)
+}
+
+// The whole text, under a format with punctuation, or with a rule of its own.
 #[inline(never)]
 fn complete_under_any<T: FromLexicalWithOptions<Options = Options>, S: Slot<T>>(
     text: &[u8],
@@ -102,8 +157,10 @@ fn complete_under_any<T: FromLexicalWithOptions<Options = Options>, S: Slot<T>>(
     if !fields.are_known() {
         return UNKNOWN;
     }
-    let answer = complete_if_valid::<T>(text, &fields.stored_format());
-    store(answer, text.len(), value)
+    if fields.is_surely_other() {
+        return complete_of_other::<T, S>(text, fields, value);
+    }
+    complete_of_rare::<T, S>(text, fields, value)
 }
 
 // The whole text, under a format that is standard but for its radix.
@@ -119,9 +176,6 @@ fn complete_in_radix<T: FromLexicalWithOptions<Options = Options>, S: Slot<T>>(
     ensures { effect result (S.number value.new)
         ≡ complete_call_under fields.now T.TYPE text.now (S.number value.old) }
 {
-    if fields.mantissa_radix == 10 {
-        return complete_any::<T, S>(text, value);
-    }
     let format = NumberFormatBuilder::from_radix(fields.mantissa_radix);
     let answer = T::from_lexical_with_options(text, &format, &options::STANDARD);
     store(answer, text.len(), value)
@@ -139,11 +193,12 @@ pub fn complete_under<T: FromLexicalWithOptions<Options = Options>, S: Slot<T>>(
         ≡ complete_call_under fields.now T.TYPE text.now (S.number value.old) }
 {
     if fields.is_plain_decimal() {
-        if let Some(number) = value_if_short::<T>(text, &fields.decimal_format()) {
-            return store(Ok(number), text.len(), value);
-        }
+        return match value_if_short::<T>(text, &fields.decimal_format()) {
+            Some(number) => store(Ok(number), text.len(), value),
+            None => complete_of_decimal::<T, S>(text, fields, value),
+        };
     }
-    if fields.is_standard_but_radix() {
+    if fields.mantissa_radix != 10 && fields.is_standard_but_radix() {
         return complete_in_radix::<T, S>(text, fields, value);
     }
     complete_under_any::<T, S>(text, fields, value)
@@ -162,11 +217,7 @@ fn partial_under_any<T: FromLexicalWithOptions<Options = Options>, S: Slot<T>>(
     if !fields.are_known() {
         return UNKNOWN;
     }
-    let answer = T::from_lexical_partial_with_options(
-        text,
-        &fields.stored_format(),
-        &options::STANDARD,
-    );
+    let answer = T::from_lexical_partial_with_options(text, &fields.format(), &options::STANDARD);
     give_front(answer, value)
 }
 
@@ -205,9 +256,70 @@ pub fn front<T: FromLexicalWithOptions<Options = Options>, S: Slot<T>>(
     give_front(number_in_front::<T>(text, &format::STANDARD), value)
 }
 
-/// The number in front of the text, under a format that may be invalid.
-#[inline(always)]
-pub fn front_under<T: FromLexicalWithOptions<Options = Options>, S: Slot<T>>(
+// The number in front of the text, under a decimal format without punctuation.
+#[inline(never)]
+fn front_of_decimal<T: FromLexicalWithOptions<Options = Options>, S: Slot<T>>(
+    text: &[u8],
+    fields: &FormatFields,
+    value: &mut S,
+) -> Outcome
+    requires known { IsTrue (are_known fields.now) }
+    requires kind { kind_of (format_of fields.now) ≡ Decimal }
+    ensures { effect result (S.number value.new)
+        ≡ front_call_under fields.now T.TYPE text.now (S.number value.old) }
+{
+    give_front(number_in_front::<T>(text, &fields.decimal_format()), value)
+}
+
+// The number in front of the text, under a format with punctuation.
+#[inline(never)]
+fn front_of_other<T: FromLexicalWithOptions<Options = Options>, S: Slot<T>>(
+    text: &[u8],
+    fields: &FormatFields,
+    value: &mut S,
+) -> Outcome
+    requires known { IsTrue (are_known fields.now) }
+    requires kind { kind_of (format_of fields.now) ≡ Other }
+    ensures { effect result (S.number value.new)
+        ≡ front_call_under fields.now T.TYPE text.now (S.number value.old) }
+{
+    give_front(number_in_front::<T>(text, &fields.other_format()), value)
+}
+
+// The number in front of the text, under a format that is standard but for its radix.
+#[inline(never)]
+fn front_in_radix<T: FromLexicalWithOptions<Options = Options>, S: Slot<T>>(
+    text: &[u8],
+    fields: &FormatFields,
+    value: &mut S,
+) -> Outcome
+    requires known { IsTrue (are_known fields.now) }
+    requires format { format_of fields.now
+        ≡ record standard { mantissa_radix = fields.now.mantissa_radix } }
+    ensures { effect result (S.number value.new)
+        ≡ front_call_under fields.now T.TYPE text.now (S.number value.old) }
+{
+    let format = NumberFormatBuilder::from_radix(fields.mantissa_radix);
+    give_front(number_in_front::<T>(text, &format), value)
+}
+
+// The number in front of the text, under any format: a rare one, whose kind has to be found.
+#[inline(never)]
+fn front_of_rare<T: FromLexicalWithOptions<Options = Options>, S: Slot<T>>(
+    text: &[u8],
+    fields: &FormatFields,
+    value: &mut S,
+) -> Outcome
+    requires known { IsTrue (are_known fields.now) }
+    ensures { effect result (S.number value.new)
+        ≡ front_call_under fields.now T.TYPE text.now (S.number value.old) }
+{
+    give_front(number_in_front::<T>(text, &fields.rare_format()), value)
+}
+
+// The number in front of the text, under a format with punctuation, or with a rule of its own.
+#[inline(never)]
+fn front_under_any<T: FromLexicalWithOptions<Options = Options>, S: Slot<T>>(
     text: &[u8],
     fields: &FormatFields,
     value: &mut S,
@@ -218,5 +330,27 @@ pub fn front_under<T: FromLexicalWithOptions<Options = Options>, S: Slot<T>>(
     if !fields.are_known() {
         return UNKNOWN;
     }
-    give_front(number_in_front::<T>(text, &fields.format()), value)
+    if fields.is_surely_other() {
+        return front_of_other::<T, S>(text, fields, value);
+    }
+    front_of_rare::<T, S>(text, fields, value)
+}
+
+/// The number in front of the text, under a format that may be invalid.
+#[inline(always)]
+pub fn front_under<T: FromLexicalWithOptions<Options = Options>, S: Slot<T>>(
+    text: &[u8],
+    fields: &FormatFields,
+    value: &mut S,
+) -> Outcome
+    ensures { effect result (S.number value.new)
+        ≡ front_call_under fields.now T.TYPE text.now (S.number value.old) }
+{
+    if fields.is_plain_decimal() {
+        return front_of_decimal::<T, S>(text, fields, value);
+    }
+    if fields.mantissa_radix != 10 && fields.is_standard_but_radix() {
+        return front_in_radix::<T, S>(text, fields, value);
+    }
+    front_under_any::<T, S>(text, fields, value)
 }

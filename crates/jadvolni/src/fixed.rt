@@ -43,7 +43,7 @@ fn integer_format(fields: &FormatFields) -> NumberFormat
         fields.mantissa_radix = 10;
         fields.required_mantissa_digits = 1;
     }
-    fields.stored_format()
+    fields.format()
 }
 
 // The status of a fault of a description.

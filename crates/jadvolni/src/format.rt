@@ -2,10 +2,10 @@
 //!
 //! Its lists of fields are written from tools/fields.txt, by `make docs`.
 
-ghost use Rattle.std.specs.Prelude.{◌≡◌, ◌↔◌, ◌&&◌, IsTrue, None, false, true};
+ghost use Rattle.std.specs.Prelude.{◌≡◌, ◌↔◌, ◌&&◌, ◌==◌, IsTrue, None, Some, false, true};
 ghost use Rattle.lexical_util.specs.Format.{standard};
 ghost use Rattle.lexical_util.specs.Kind.{is_punctuated, kind_of};
-ghost use Rattle.lexical_util.specs.Validity.{fault};
+ghost use Rattle.lexical_util.specs.Validity.{are_alike, fault, is_unfit_beside_literals, is_unfit_byte};
 ghost use Rattle.lexical_util.specs.declared.format.kind.FormatKind.TheVariants.{Decimal, Other};
 ghost use Rattle.jadvolni.specs.Effect.{format_status};
 ghost use Rattle.jadvolni.specs.FormatFields.{are_known, flag, format_of, has_bit, punctuation};
@@ -73,6 +73,21 @@ fn punctuation(byte: u8, is_nul: bool) -> Option<u8>
         None
     } else {
         Some(byte)
+    }
+}
+
+// Whether a byte is a suffix that languages have: none of these is a digit of radix 16, or a letter of a literal prefix.
+#[inline(always)]
+fn is_common_suffix(byte: u8) -> bool
+    ensures set { IsTrue result → (byte == 0) ≡ false }
+    ensures decimal { IsTrue result → is_unfit_byte 10 byte ≡ false }
+    ensures hexadecimal { IsTrue result → is_unfit_byte 16 byte ≡ false }
+    ensures literals { IsTrue result → is_unfit_beside_literals (Some byte) ≡ false }
+    ensures separator { IsTrue result → are_alike (Some 95) (Some byte) ≡ false }
+{
+    match byte {
+        b'h' | b'H' | b'l' | b'L' | b'n' => true,
+        _ => false,
     }
 }
 
@@ -178,23 +193,12 @@ impl FormatFields {
             .base_suffix(punctuation(self.base_suffix, has_bit(nul, 4)))
     }
 
-    // The kind of the format: few words of its fields say so, where it is decimal and has no punctuation.
-    #[inline(always)]
-    fn kind(&self) -> FormatKind
-        ensures { result ≡ kind_of (format_of self.now) }
-    {
-        if self.is_plain_decimal() {
-            return FormatKind::Decimal;
-        }
-        self.builder().build_unchecked().kind()
-    }
-
-    // Whether the format is surely a valid one with punctuation, as those of most languages are: decimal, with the separator
-    // `_` or a comma, or with literals or a required sign alone; or hexadecimal with `0x`. The first four bytes are asked as a
-    // word.
+    /// Whether the format is surely a valid one with punctuation, as those of most languages are: decimal with the separator
+    /// `_`, a comma, a point, an apostrophe or a blank, or with literals or a required sign alone; or hexadecimal with `0x`.
+    /// The first four bytes are asked as a word.
     #[inline(always)]
     #[tactic(auto, using(lexical_util::proofs::FormatKinds::other_kind))]
-    fn is_surely_other(&self) -> bool
+    pub(crate) fn is_surely_other(&self) -> bool
         ensures { IsTrue result → kind_of (format_of self.now) ≡ Other }
     {
         if self.nul_is_punctuation != 0 {
@@ -206,7 +210,12 @@ impl FormatFields {
             self.base_prefix,
             self.base_suffix,
         ]);
-        if first == 0x5F0A || first == 0x2C0A {
+        if first == 0x5F0A
+            || first == 0x2C0A
+            || first == 0x2E0A
+            || first == 0x270A
+            || first == 0x200A
+        {
             return true;
         }
         if first == 10 {
@@ -217,17 +226,50 @@ impl FormatFields {
         asks_for_x(*self) && self.literal_prefixes == 0 && self.literal_octal_zero == 0
     }
 
-    // The kind of any format, by its rules. A function of its own, so that its callers need no stack.
+    // Whether the format is surely a valid one with a suffix, as those of C, Java, JavaScript and assembly are: decimal, with
+    // or without the separator `_`, or hexadecimal.
+    #[inline(always)]
+    #[tactic(auto, using(lexical_util::proofs::FormatKinds::other_kind))]
+    fn is_surely_suffixed(&self) -> bool
+        ensures { IsTrue result → kind_of (format_of self.now) ≡ Other }
+    {
+        if !is_common_suffix(self.base_suffix) {
+            return false;
+        }
+        let head = u32::from_le_bytes([
+            self.mantissa_radix,
+            self.digit_separator,
+            self.base_prefix,
+            self.nul_is_punctuation,
+        ]);
+        if head == 10 || head == 0x5F0A {
+            return true;
+        }
+        head == 16 && self.literal_prefixes == 0 && self.literal_octal_zero == 0
+    }
+
+    // The kind by the rules, which need a stack: so it is out of line.
     #[inline(never)]
-    fn any_kind(&self) -> FormatKind
+    fn kind_by_rules(&self) -> FormatKind
         ensures { result ≡ kind_of (format_of self.now) }
     {
         self.builder().build_unchecked().kind()
     }
 
-    // The kind of the format, out of line: it is found before the format is made, which needs the registers.
+    // The kind of a format that is rare. This and the next are out of line, so that a format is made with all registers free.
     #[inline(never)]
-    fn kind_first(&self) -> FormatKind
+    fn rare_kind(&self) -> FormatKind
+        ensures { result ≡ kind_of (format_of self.now) }
+    {
+        if self.is_surely_suffixed() {
+            return FormatKind::Other;
+        }
+        self.kind_by_rules()
+    }
+
+    // The kind of the format.
+    #[inline(never)]
+    fn kind(&self) -> FormatKind
         ensures { result ≡ kind_of (format_of self.now) }
     {
         if self.is_surely_other() {
@@ -236,25 +278,25 @@ impl FormatFields {
         if self.is_plain_decimal() {
             return FormatKind::Decimal;
         }
-        self.any_kind()
+        self.rare_kind()
     }
 
-    /// The format that the fields stand for, which may be invalid, for a function of which there are many copies, or that keeps
-    /// much in registers: its kind is found out of line.
+    /// The format that the fields stand for, which may be invalid, where no quicker test knew its kind.
     #[inline(always)]
-    pub(crate) fn stored_format(&self) -> NumberFormat
+    pub(crate) fn rare_format(&self) -> NumberFormat
         ensures { result ≡ format_of self.now }
     {
-        let kind = self.kind_first();
+        let kind = self.rare_kind();
         self.builder().build_of_kind(kind)
     }
 
     /// The format that the fields stand for, which may be invalid.
     #[inline(always)]
-    pub fn format(&self) -> NumberFormat
+    pub(crate) fn format(&self) -> NumberFormat
         ensures { result ≡ format_of self.now }
     {
-        self.builder().build_of_kind(self.kind())
+        let kind = self.kind();
+        self.builder().build_of_kind(kind)
     }
 
     // Whether punctuation is set, but for a byte 0, or a sign is required.
@@ -283,7 +325,7 @@ impl FormatFields {
             return FormatKind::Other;
         }
         if self.nul_is_punctuation != 0 {
-            return self.kind_first();
+            return self.kind();
         }
         if self.mantissa_radix == 10 {
             FormatKind::Decimal
@@ -308,6 +350,15 @@ impl FormatFields {
         ensures { result ≡ format_of self.now }
     {
         self.builder().build_of_kind(FormatKind::Decimal)
+    }
+
+    /// The format of fields that [`FormatFields::is_surely_other`] takes.
+    #[inline(always)]
+    pub(crate) fn other_format(&self) -> NumberFormat
+        requires { kind_of (format_of self.now) ≡ Other }
+        ensures { result ≡ format_of self.now }
+    {
+        self.builder().build_of_kind(FormatKind::Other)
     }
 
     /// What is wrong with the format. Out of line, since its rules need a stack, and its two callers don't.

@@ -26,7 +26,7 @@ pub extern "C" fn jadvolni_parse_literal(
     if !format.are_known() {
         return UNKNOWN;
     }
-    match literal_in_front(text, &format.stored_format()) {
+    match literal_in_front(text, &format.format()) {
         Ok(literal) => {
             *value = Unsigned128::of(literal.value);
             *suffix = literal.number_stop;
@@ -149,7 +149,7 @@ pub extern "C" fn jadvolni_parse_typed_literal(
             place: 0,
         };
     }
-    match typed_literal_in_front(text, &format.stored_format(), table) {
+    match typed_literal_in_front(text, &format.format(), table) {
         Ok(literal) => {
             *value = Unsigned128::of(literal.value);
             *suffix = literal.number_stop;
