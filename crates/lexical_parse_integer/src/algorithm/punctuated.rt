@@ -142,15 +142,11 @@ fn value_behind<T: Integer>(bytes: &[u8], format: &NumberFormat, head: Head) -> 
     }
 }
 
-// The value of the whole text, where decimal or hexadecimal digits alone stand behind its head. Others, and those before a
-// suffix, are read from the left at once.
+// The value of the whole text, where digits alone stand behind its head.
 #[inline(always)]
-pub(super) fn value_behind_head<T: Integer>(
-    bytes: &[u8],
-    format: &NumberFormat,
-    head: Head,
-) -> Option<T>
+fn value_if_alone<T: Integer>(bytes: &[u8], format: &NumberFormat, head: Head) -> Option<T>
     requires valid { IsNone (fault format.now) }
+    requires some { head.start < length bytes.now }
     requires head { head_of format.now T.TYPE bytes.now ≡ Ok (record {
       is_negative = head.is_negative;
       is_prefixed = head.is_prefixed;
@@ -160,16 +156,38 @@ pub(super) fn value_behind_head<T: Integer>(
     }) }
     ensures { IfSome result (λ value. complete format.now T.TYPE bytes.now ≡ Ok (T.number value)) }
 {
-    if (head.radix != 10 && head.radix != 16)
-        || format.base_suffix().is_some()
-        || bytes.len() <= head.start
-    {
-        return None;
-    }
-    if !keeps_rule_behind(format, head, &bytes[head.start..]) {
+    if format.base_suffix().is_some() || !keeps_rule_behind(format, head, &bytes[head.start..]) {
         return None;
     }
     value_behind::<T>(bytes, format, head)
+}
+
+// The value of the whole text, where decimal or hexadecimal digits alone stand behind its head. Others, and those before a
+// suffix, are read from the left at once. The radixes are told apart first, so that each is compiled with its own reader.
+#[inline(always)]
+pub(super) fn value_behind_head<T: Integer>(
+    bytes: &[u8],
+    format: &NumberFormat,
+    head: Head,
+) -> Option<T>
+    requires valid { IsNone (fault format.now) }
+    requires some { head.start < length bytes.now }
+    requires head { head_of format.now T.TYPE bytes.now ≡ Ok (record {
+      is_negative = head.is_negative;
+      is_prefixed = head.is_prefixed;
+      is_octal = head.is_octal;
+      start = head.start;
+      radix = head.radix;
+    }) }
+    ensures { IfSome result (λ value. complete format.now T.TYPE bytes.now ≡ Ok (T.number value)) }
+{
+    if head.radix == 10 {
+        return value_if_alone::<T>(bytes, format, head);
+    }
+    if head.radix == 16 {
+        return value_if_alone::<T>(bytes, format, head);
+    }
+    None
 }
 
 // The value of the whole text under a format with a separator, where digits alone stand behind its head, or decimal digits

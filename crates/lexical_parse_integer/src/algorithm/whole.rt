@@ -255,15 +255,19 @@ pub fn complete_if_valid<T: Integer>(bytes: &[u8], format: &NumberFormat) -> Res
 // ---- under a valid format
 
 // The complete answer under a valid format with punctuation, as one with a suffix, or with no separator: the text's head is
-// found once, and what isn't digits alone behind it is read from there. Out of line, to keep callers small.
+// found once, and what isn't digits alone behind it is read from there, as octal digits are. Out of line, to keep callers small.
 #[inline(never)]
 fn complete_punctuated<T: Integer>(bytes: &[u8], format: &NumberFormat) -> Result<T>
     requires valid { IsNone (fault format.now) }
     ensures { view_of T.number result ≡ complete format.now T.TYPE bytes.now }
 {
     let head = head_of::<T>(bytes, format)?;
-    if let Some(value) = value_behind_head::<T>(bytes, format, head) {
-        return Ok(value);
+    if !head.is_octal && head.start < bytes.len() {
+        if let Some(value) = value_behind_head::<T>(bytes, format, head) {
+            return Ok(value);
+        }
+    } else if is_prefix_alone(bytes, head) {
+        return Err(Error::Empty(bytes.len()));
     }
     completion::<T>(bytes, front_behind::<T>(bytes, format, head))
 }
