@@ -1,6 +1,6 @@
 // Where the next digit stands. These functions take plain values, so that the compiler can keep a cursor in
 // registers.
-ghost use Rattle.std.specs.Prelude.{◌≡◌, ◌≤◌, ◌<◌, IfSome, IsNone, None, false, length, true};
+ghost use Rattle.std.specs.Prelude.{◌≡◌, ◌-◌, ◌≤◌, ◌<◌, IfSome, IsNone, None, false, is_some, length, true};
 ghost use Rattle.lexical_util.specs.Digit.{IsRadix};
 ghost use Rattle.lexical_parse_integer.specs.Runs.{admits_leading, digit_at, end_of, flag_for, run_passes, run_stop, separator_at};
 ghost use Rattle.lexical_parse_integer.specs.Seeking.{Finds, IsAtRunStart, IsSeparatorNoDigit, starts_behind_prefix};
@@ -77,7 +77,8 @@ fn flag_for(format: &NumberFormat, start: usize, before: bool, after: bool) -> b
     }
 }
 
-// Whether the run from `from`, which is its first byte, to before `to` passes.
+// Whether the run from `from`, which is its first byte, to before `to` passes. The text isn't asked for a digit before it:
+// one stands there, unless the numeral begins with the run.
 #[inline(always)]
 #[tactic(auto, unfolding(crate::specs::Runs::run_passes))]
 fn run_passes(
@@ -89,11 +90,12 @@ fn run_passes(
     to: usize,
 ) -> bool
     requires order { from < to }
+    requires digit { start < from → is_some (digit_at radix bytes.now (from - 1)) ≡ true }
     requires radix { IsRadix radix }
     ensures { result
         ≡ run_passes format.now (starts_behind_prefix start) radix bytes.now start from to }
 {
-    let before = start < from && digit_at(bytes, radix, from - 1).is_some();
+    let before = start < from;
     let after = digit_at(bytes, radix, to).is_some();
     (format.integer_consecutive_digit_separator() || to - from == 1)
         && flag_for(format, start, before, after)
@@ -113,6 +115,8 @@ fn behind_run(
 ) -> Option<usize>
     requires radix { IsRadix radix }
     requires within { position ≤ length bytes.now }
+    requires digit { start < position
+        → is_some (digit_at radix bytes.now (position - 1)) ≡ true }
     requires run { separator_at format bytes.now position ≡ true }
     ensures passes { IfSome result (λ stop. (stop ≡ run_stop format bytes.now position)
         × (run_passes format (starts_behind_prefix start) radix bytes.now start position stop

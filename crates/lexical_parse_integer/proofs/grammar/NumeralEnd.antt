@@ -1,5 +1,5 @@
 -- Which places belong to a numeral, and what its end follows from: for the search of the next digit.
-use Rattle.std.proofs.Common.{◌≡◌, ℕ, suc, ◌+◌, ◌≤◌, ◌<◌, Bool, true, false, List, length, Some, None, option_and_then, refl, sym, ◌∙◌, ap, arith, inl, inr}
+use Rattle.std.proofs.Common.{◌≡◌, ℕ, suc, ◌+◌, ◌-◌, ◌≤◌, ◌<◌, ◌&&◌, ◌||◌, Bool, true, false, List, length, Some, None, is_some, option_and_then, refl, sym, ◌∙◌, ap, arith, inl, inr}
 use Rattle.std.proofs.lemmas.Bool.{false≢true, cases_lt}
 use Rattle.std.proofs.lemmas.Option.{slice_get_past}
 use Rattle.lexical_parse_integer.specs.Runs.{are_same, is_in_numeral, digit_at, end_of, is_in_passing_run, run_begin, run_passes, run_stop, separator_at}
@@ -117,6 +117,18 @@ module _ (f : Format) (pre : Bool) (r : ℕ) (b : List ℕ) (j : ℕ) where
 
     pub ends_here : digit_at r b p ≡ None → separator_at f b p ≡ false → Finds f pre r b j p (End p)
     ends_here e s = (is_end p p low reached (omega arith) within none_here (λ h. belongs_other p s e), no_digit_here, λ _ t. absurd (false≢true (sym s ∙ t)))
+
+    -- before a run stands a digit, unless the numeral begins with the run
+    pub digit_before : separator_at f b p ≡ true → IsAtRunStart f b j p → j < p → is_some (digit_at r b (p - 1)) ≡ true
+    unfolding is_in_numeral
+    digit_before first edge behind =
+        let s = IsStop-end_of (omega arith) in
+        by_tests _ _ _ (edge behind first) (s.holds (p - 1) (omega arith) (omega arith))
+      where
+        by_tests : (digit separator passes : Bool) → separator ≡ false → (digit || (separator && passes)) ≡ true → digit ≡ true
+        by_tests true separator passes apart belongs = refl
+        by_tests false false passes apart belongs = absurd (false≢true belongs)
+        by_tests false true passes apart belongs = absurd (false≢true (sym apart))
 
     module _ (q : ℕ) (first : separator_at f b p ≡ true) (plain : IsSeparatorNoDigit f r b) (edge : IsAtRunStart f b j p) (run : IsStop (separator_at f b) p (length b) q) where
       p_below_q : p < q

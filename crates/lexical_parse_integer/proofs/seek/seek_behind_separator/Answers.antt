@@ -1,7 +1,7 @@
 use Rattle.std.proofs.Common.{◌≡◌, true, false, length, Some, None, refl, sym, ◌∙◌}
 use Rattle.lexical_parse_integer.specs.Runs.{digit_at, run_stop, separator_at}
 use Rattle.lexical_parse_integer.specs.Seeking.{starts_behind_prefix}
-use Rattle.lexical_parse_integer.proofs.grammar.NumeralEnd.{ends_behind, ends_here, ends_refused, finds_behind}
+use Rattle.lexical_parse_integer.proofs.grammar.NumeralEnd.{digit_before, ends_behind, ends_here, ends_refused, finds_behind}
 use Rattle.lexical_parse_integer.proofs.grammar.Stretches.{IsStop, IsStop-stop_of}
 use Rattle.lexical_parse_integer.proofs.seek.seek_behind_separator.Goals as goal
 
@@ -9,6 +9,11 @@ pub returns-then-not-separator_at : goal.returns-then-not-separator_at
 returns-then-not-separator_at c =
     let none : separator_at c.args.format.now c.args.bytes.now c.args.position ≡ false = cc in
     ends_here c.args.format.now (starts_behind_prefix c.args.start) c.args.radix c.args.bytes.now c.args.start c.args.position c.requires.after_start c.requires.before_end c.requires.within c.requires.no_digit none
+
+pub behind_run-requires-clause-digit : goal.behind_run-requires-clause-digit
+behind_run-requires-clause-digit c =
+    digit_before c.args.format.now (starts_behind_prefix c.args.start) c.args.radix c.args.bytes.now c.args.start c.args.position c.requires.after_start c.requires.before_end c.requires.within
+    (sym c.separator_at.ensures ∙ c.if-not-separator_at.false) c.requires.at_run_start
 
 pub returns-in_default : goal.returns-in_default
 returns-in_default c =
