@@ -85,6 +85,22 @@ pub(in crate::algorithm) fn place_after_digits<T: Integer>(
     Some(start + count)
 }
 
+// How many digits of more than so many are read at once. Signed types have room for one decimal digit more than for digits of
+// any kind: where one stands there, and it makes whole words, it is read too.
+#[inline(always)]
+fn digits_at_once<T: Integer>(digits: &[u8], most: usize) -> usize
+    requires some { 1 ≤ most }
+    requires more { most < length digits.now }
+    ensures some { 1 ≤ result }
+    ensures within { result ≤ length digits.now }
+{
+    if T::IS_SIGNED && T::BITS >= 32 && digits[most] <= b'9' {
+        most + 1
+    } else {
+        most
+    }
+}
+
 // The answer for a text that has more digits than its type has surely room for: the number that they stand for, or the
 // fault at the digit with which the number leaves the type, or at the first byte that is no digit. The caller asks for zeros
 // in front, since a look at the first digit alone would have the compiler load the others one by one.
@@ -104,10 +120,11 @@ pub(in crate::algorithm) fn answer_after_digits<T: Integer>(
         (λ answer. view_of T.number answer ≡ complete format.now T.TYPE bytes.now) }
 {
     let digits = &bytes[start..];
-    let mut count = T::overflow_digits(10);
-    if digits.len() <= count {
+    let most = T::overflow_digits(10);
+    if digits.len() <= most {
         return None;
     }
+    let mut count = digits_at_once::<T>(digits, most);
     let mut value = value_of_digits::<T>(&digits[..count], is_negative)?;
     while count < digits.len() {
         let place = start + count;
