@@ -1,5 +1,5 @@
 -- What the kind of a format says of it, and what the parsers answer by it.
-use Rattle.std.proofs.Common.{◌≡◌, ◌∙◌, ℕ, List, refl, sym, ap, subst, Option, Some, None, Ok, Err, Result}
+use Rattle.std.proofs.Common.{◌≡◌, ◌∙◌, ℕ, List, refl, sym, ap, subst, Option, Some, None, Err, Result}
 use Rattle.std.specs.Prelude.{IsNone}
 use Rattle.lexical_util.specs.declared.error.Error.{Error}
 use Rattle.lexical_util.specs.declared.format.kind.FormatKind.TheVariants.{Decimal, Plain, Other, Invalid}

@@ -1,4 +1,4 @@
-use Rattle.std.proofs.Common.{Bool, true, false, not, Option, None, Some, is_some, refl, sym, ap, subst, ◌≡◌, ◌∙◌, ℕ, IsTrue}
+use Rattle.std.proofs.Common.{Bool, true, false, not, Option, None, Some, is_some, refl, sym, ap, ◌≡◌, ◌∙◌, ℕ, IsTrue}
 use Rattle.std.specs.Prelude.{IsNone}
 use Rattle.lexical_util.specs.Digit.{digit}
 use Rattle.lexical_parse_integer.proofs.plain.KindsOfFormats.{decimal_is_plain, decimal_radix}
