@@ -292,7 +292,7 @@ impl FormatFields {
 
     /// The format that the fields stand for, which may be invalid.
     #[inline(always)]
-    pub(crate) fn format(&self) -> NumberFormat
+    pub fn format(&self) -> NumberFormat
         ensures { result ≡ format_of self.now }
     {
         let kind = self.kind();
