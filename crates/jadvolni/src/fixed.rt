@@ -80,8 +80,8 @@ impl FixedFields {
         kept.are_known()
     }
 
-    // The status of the format of integers, or of the description of numbers that have places. The standard format, as most
-    // columns have it, isn't asked for each of its rules.
+    // The status of the format of integers, or of the description of numbers that have places. A decimal format without
+    // punctuation, as most columns have, isn't asked for each of its rules.
     pub(crate) fn number_status(&self) -> u32
         ensures { result ≡ number_status self.now }
     {
@@ -89,7 +89,7 @@ impl FixedFields {
             return UNKNOWN_FIELD;
         }
         if self.places == 0 {
-            if self.integer.is_standard() {
+            if self.integer.is_plain_decimal() {
                 return 0;
             }
             return self.integer.status();
