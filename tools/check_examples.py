@@ -123,8 +123,6 @@ def of_columns() -> Iterator[Case]:
     yield Case("records", b"  1rent    -5365bank-80000" * 50000, "-4000250000\n")
     yield from faults("records", {b"  1rent    -5\n": "row 2, cell 1, byte 14: too few cells",
                                   b"  1rent    -x  2": "row 1, cell 3, byte 12: invalid digit"})
-    for words in ((), ("1", "2"), ("0",), ("",), ("x",), ("-1",), ("18446744073709551616",)):
-        yield Case("csv_column", b"1\n", "", 2, "usage: csv_column COLUMN < FILE", words)
 
 
 def of_exports() -> Iterator[Case]:
@@ -159,8 +157,6 @@ def of_exports() -> Iterator[Case]:
     separator = "the separator has to be ASCII, and no sign and no digit of the radix"
     for marks, fault in ((";,,", point), (";5.", point), (";,5", separator)):
         yield Case(program, names, "", 2, f"{program}: {marks}: {fault}", (marks,))
-    for words in ((), ("",), (";,",), (";,.;",), (";,.", "x")):
-        yield Case(program, names, "", 2, f"{program}: usage: bank_export MARKS < FILE", words)
     yield Case(program, b"", "", 2, f"{program}: {IS_FOLDER}", bank, FOLDER)
     yield Case(program, names + rows, "", 2, f"{program}: {IS_FULL}", bank, FULL)
 
@@ -189,7 +185,6 @@ def by_name() -> Iterator[Case]:
         yield from faults(program, {given: told}, words)
     yield Case(program, b"", "", 2, f"{program}: {IS_FOLDER}", words, FOLDER)
     yield Case(program, b"cents\n1\n", "", 2, f"{program}: {IS_FULL}", words, FULL)
-    yield Case(program, b"", "", 2, "usage: named_column NAME < FILE")
 
 
 def with_bad_rows() -> Iterator[Case]:
@@ -219,7 +214,6 @@ def with_bad_rows() -> Iterator[Case]:
     }, words)
     yield Case(program, b"", "", 2, f"{program}: {IS_FOLDER}", words, FOLDER)
     yield Case(program, b"b\n1\n", "", 2, f"{program}: {IS_FULL}", words, FULL)
-    yield Case(program, b"", "", 2, "usage: bad_rows NAME < FILE")
 
 
 def of_words() -> Iterator[Case]:
@@ -246,6 +240,35 @@ def of_words() -> Iterator[Case]:
         yield Case("colour", b"", "30 144 255\n", 1, told, ("1e90FF", word))
 
 
+PAGES = {
+    "sum": ("", "Adds up integers, one a line.", "a wrong line"),
+    "ledger": ("", "Adds up the amounts of lines `NAME AMOUNT`.", "a wrong row"),
+    "records": ("", "Adds up the amounts of records of 13 bytes.", "a wrong record"),
+    "csv_column": ("COLUMN ", "Adds up that column, counted from 1.", "a wrong row"),
+    "bank_export": ("MARKS ", "Prints an export, and the sum of its amounts.", "a bad row"),
+    "named_column": ("NAME ", "Adds up the column of that name.", "a wrong row"),
+    "bad_rows": ("NAME ", "Adds up the column of that name, without bad rows.", "a bad row"),
+}
+REFUSED: Dict[str, Tuple[Words, ...]] = {
+    "csv_column": ((), ("0",), ("",), ("x",), ("-1",), ("18446744073709551616",)),
+    "bank_export": ((), ("",), (";,",), (";,.;",)),
+    "named_column": ((),),
+    "bad_rows": ((),),
+}
+
+
+def of_arguments() -> Iterator[Case]:
+    """The programs that read standard input, asked for their page, and with wrong arguments."""
+    for program, (words, does, wrong) in PAGES.items():
+        page = (f"usage: {program} {words}< FILE\n{does}"
+                f" Exit status 1: {wrong}, or too large a sum; 2: reading or writing failed.")
+        yield Case(program, b"1\n", f"{page}\n", words=("--help",))
+        yield Case(program, b"1\n", f"{page}\n", words=("--help", "more"))
+        yield Case(program, b"", "", 2, f"{program}: {IS_FULL}", ("--help",), FULL)
+        for refused in (*REFUSED.get(program, (("more",), ("-",), ("",))), ("1", "2")):
+            yield Case(program, b"1\n", "", 2, page, refused)
+
+
 def of_memory() -> Iterator[Case]:
     """The programs that keep a row or all of their input, with too little memory for it."""
     digits, cells = b"1" * 40_000_000, b"," * 2_000_000
@@ -260,7 +283,8 @@ def of_memory() -> Iterator[Case]:
     yield Case("csv_column", digits, "", 2, "csv_column: std::bad_alloc", ("1",), "", little, "cpp")
 
 
-CASES = [*of_columns(), *of_exports(), *by_name(), *with_bad_rows(), *of_words(), *of_memory()]
+CASES = [*of_columns(), *of_exports(), *by_name(), *with_bad_rows(), *of_words(), *of_arguments(),
+         *of_memory()]
 
 
 def check(place: Place, case: Case, program: str) -> None:
