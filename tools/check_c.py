@@ -210,15 +210,16 @@ def install(place: Place) -> str:
     run(["make", "-s", *BUILT, "install-lib", f"DESTDIR={below}", *INSTALLED], cwd=TOP)
     share = f"{below}/usr/share"
     pages = {name[:-2] for name in os.listdir(f"{share}/man/man3")}
-    told = {*CALLS, *re.findall(r"jadvolni\w*", text_of("packaging", "jadvolni.3.in"))}
-    wrong = {*CALLS} - pages | {name for name in pages - told if not name.endswith("_column_part")}
+    named = {*CALLS, *re.findall(r"jadvolni\w*", text_of("packaging", "jadvolni.3.in"))}
+    wrong = {*CALLS} - pages | {name for name in pages - named if not name.endswith("_column_part")}
     if wrong:
         raise Failed(f"no page, or not a word of it there: {sorted(wrong)}")
     missing = {"LICENSE-APACHE", "LICENSE-MIT", "NOTICE"} - set(os.listdir(f"{share}/doc/jadvolni"))
     if missing:
         raise Failed(f"not installed: {sorted(missing)}")
     refused = "! make -n install-lib PREFIX="
-    run(["sh", "-c", f"{refused}'~/x' && {refused}'/x&y' && {refused}/x DESTDIR='/x`y`'"], cwd=TOP)
+    run(["sh", "-c", f"{refused}'~/x' && {refused} && {refused}'/x&y'"
+         f" && {refused}/x DESTDIR='/x`y`'"], cwd=TOP)
     return f"{sum(len(files) for _, _, files in os.walk(below))} files"
 
 
