@@ -318,6 +318,9 @@ def cargo(place: Place) -> str:
     on_full_device(place.path("target/debug/examples/ten_lines"))
     settings = ["cargo", "run", *alone, "--example", "settings", "80", "7"]
     answer(run(settings, where, crates), "port 80, 7 percent\n")
+    page = run(["cargo", "run", *alone, "--features=std", "--example", "bad_rows", "--", "--help"],
+               where, crates)
+    answer(page.partition("\n")[0], "usage: bad_rows NAME < FILE")
     passed = re.findall(r"(?m)^test result: ok. ([0-9]+) passed", said)
     if shutil.which("cargo-clippy"):
         run(["cargo", "clippy", *alone, "--all-features", "--all-targets", "--", "-D", "warnings"],
