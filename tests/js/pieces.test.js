@@ -35,7 +35,7 @@ function listsOf(column) {
   return [[...column], starts, [...column.sizes], [...column.hasDoubledQuotes]];
 }
 
-/** What is read of a text: its columns and bad rows, or its fault; null if a row is too long for a piece. */
+/** What is read of a text: its columns and bad rows, or its fault; undefined if a row is too long for a piece. */
 function readingOf(reading, { ParseError }) {
   const ofError = (error) => ({ ...error, message: error.message });
   try {
