@@ -104,6 +104,14 @@ CASES = [
          "neither a cause nor a case of one: ======="),
     Case("echo ======= >> bench/calls.tsv; python3 tools/documents.py",
          "no call with its counts: ======="),
+    Case("printf '== x\\nerror: y\\n' > tools/must_not_compile.txt;"
+         " python3 tools/must_not_compile.py",
+         "tools/must_not_compile.txt: x: there is no line `// here`"),
+    Case("> tools/must_not_compile.txt; python3 tools/must_not_compile.py", "no program"),
+    Case("rm tools/must_not_compile.txt; python3 tools/must_not_compile.py > out",
+         "No such file or directory"),
+    Case("rm tools/fields.txt; python3 tools/documents.py > out",
+         "tools/fields.txt: No such file"),
 ]
 
 
