@@ -110,6 +110,9 @@ CASES = [
     Case("> tools/must_not_compile.txt; python3 tools/must_not_compile.py", "no program"),
     Case("rm tools/must_not_compile.txt; python3 tools/must_not_compile.py > out",
          "No such file or directory"),
+    Case("printf '\\377' >> bench/calls.txt; bench/calls --library LICENSE-MIT",
+         "bench/calls: 'ascii' codec"),
+    Case("rm bench/calls.txt; bench/calls --library LICENSE-MIT > out", "No such file"),
     Case("rm tools/fields.txt; python3 tools/documents.py > out",
          "tools/fields.txt: No such file"),
 ]
