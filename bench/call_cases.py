@@ -118,9 +118,9 @@ def case_of(line: str, section: str, named: dict[str, dict[str, int]]) -> Case:
     text = read_text(more[-1]) if more[-1].startswith('"') else made_text(more[-1].split(), how)
     how["separator"], how["rows"] = separator(how), row_count(how, text)
     is_c = call.startswith(OF_C)
-    told = [call, kind, format_bytes("standard" if form == "-" else form, named),
-            ",".join(str(how[key]) for key in HOW + (FIXED if is_c else ())), str(len(text))]
-    return Case(line, section, is_c, " ".join(told).encode() + b" " + text + b"\n")
+    words = [call, kind, format_bytes("standard" if form == "-" else form, named),
+             ",".join(str(how[key]) for key in HOW + (FIXED if is_c else ())), str(len(text))]
+    return Case(line, section, is_c, " ".join(words).encode() + b" " + text + b"\n")
 
 
 def read_cases(path: str = CASES) -> list[Case]:

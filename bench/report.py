@@ -12,7 +12,7 @@ HERE = os.path.dirname(os.path.abspath(__file__))
 AT_MANY = "ours, 20 sites"
 OURS = ("ours", AT_MANY, "ours, constant", "ours, in place", "C call")
 PEERS = (*OURS, "from_chars", "strtoull", "lexical-core")
-# The rows that most users have, as they are told first.
+# The rows that most users have come first.
 MOST = ("u64, realistic", "i64, realistic", "JSON at run time, realistic",
         "radix 16 at run time, 8 digits", "fault: a letter at the end")
 FIRST = {"ours": "inlined", AT_MANY: "at 20 call sites", "C call": "from C",

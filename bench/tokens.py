@@ -116,7 +116,7 @@ def driver() -> str:
     return peer
 
 
-def told(peer: str, path: str, rounds: int) -> dict[str, float]:
+def answer_of(peer: str, path: str, rounds: int) -> dict[str, float]:
     """What the driver prints."""
     ran = subprocess.run([peer, path, str(rounds)], capture_output=True, text=True, check=True)
     return {name: float(found)
@@ -128,13 +128,13 @@ def measured(peer: str, kind: str, asked: page.Asked) -> list[str]:
     path = os.path.join(drivers.room(), "tokens", "source")
     with open(path, "wb") as file:
         file.write(source(kind, asked.size, asked.seed))
-    found = told(peer, path, asked.rounds)
+    found = answer_of(peer, path, asked.rounds)
     hand, ours = (found[name] for name in PEERS)
     counts = "–"
     if shutil.which("valgrind"):
         with open(path, "wb") as file:
             file.write(source(kind, COUNTED, asked.seed))
-        tokens = told(peer, path, 1)["tokens"]
+        tokens = answer_of(peer, path, 1)["tokens"]
         none, *of_peers = [page.instructions([peer, path, "once", name])
                            for name in ("none", *PEERS)]
         counts = " / ".join(f"{(count - none) / tokens:.0f}" for count in of_peers)

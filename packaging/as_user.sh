@@ -3,6 +3,7 @@
 #
 #     as_user.sh FOLDER [packages]    packages: installs Debian's packages too, and takes them away
 set -eu
+[ $# -gt 0 ] || { echo "usage: as_user.sh FOLDER [packages]" >&2; exit 2; }
 cd "$1"
 is() { # NAME COMMAND..: the command has to print what README shows
     name=$1

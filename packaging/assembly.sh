@@ -6,6 +6,7 @@
 # The toolchain's clang makes the archive out of a module. Here it makes assembly of that module too.
 # That has to give the code and the constants of the archive again.
 set -eu
+[ $# = 2 ] || { echo "usage: packaging/assembly.sh jadvolni.S VERDICT" >&2; exit 2; }
 cd "$(dirname "$0")/.."
 target=$1 verdict=$2 archive=$PWD/build/libjadvolni.a
 kit=$(dirname "$(dirname "$(readlink -f "$(command -v "${RT:-rt}")")")")

@@ -9,6 +9,7 @@ set -eu
 export LC_ALL=C TZ=UTC PYTHONDONTWRITEBYTECODE=1 PIP_DISABLE_PIP_VERSION_CHECK=1
 unset CPPFLAGS INCLUDEDIR LIBDIR MANDIR MAKEFLAGS # which would lay out other archives
 umask 022
+case $* in '' | check) ;; *) echo "usage: packaging/dist.sh [check]" >&2; exit 2 ;; esac
 cd "$(dirname "$0")/.."
 top=$PWD rt=${RT:-rt}
 fail() { echo "make dist: $1" >&2; exit 1; }

@@ -6,6 +6,7 @@
 # VERDICT is the file with the last line of the library's proof. What the gate counted stands in
 # build/gate.log, with the commit, if `make test` ran here.
 set -eu
+[ $# = 4 ] || { echo "usage: packaging/sbom.sh VERSION COMMIT TOOLCHAIN VERDICT" >&2; exit 2; }
 cd "$(dirname "$0")/.."
 gate=$(grep -sqx "$2" build/gate.log && grep ' parts passed, ' build/gate.log || :)
 crates=$(grep -c '^[a-z]' crates.txt)

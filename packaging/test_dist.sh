@@ -5,6 +5,7 @@
 # with no toolchain. Else the part that needs no root runs here. LAST is the folder of the library of
 # the release before, if there is one; FUZZ how many seconds each target of libFuzzer runs.
 set -eu
+[ $# = 0 ] || { echo "usage: packaging/test_dist.sh" >&2; exit 2; }
 cd "$(dirname "$0")/.."
 root=${ROOT:-$PWD/build/system} suite=${SUITE:-trixie}
 has() { command -v "$1" > /dev/null || { echo "skipped: there is no $1"; return 1; }; }

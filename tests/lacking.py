@@ -25,7 +25,7 @@ class Case(NamedTuple):
     """A command, and what it has to say."""
 
     command: str
-    told: str
+    message: str
 
 
 CASES = [
@@ -48,6 +48,7 @@ CASES = [
     Case("python3 tools/documents.py --words > /dev/full", "No space left on device"),
     Case("python3 tools/rows.py --check > /dev/full", "No space left on device"),
     Case("python3 tools/house.py > /dev/full", "No space left on device"),
+    Case("echo c u64 12 | python3 tools/reference_lines.py > /dev/full", "No space left on device"),
     Case("tests/shell_snippet.sh", "which make lexint builds"),
     Case("tests/shell_snippet.sh nowhere", "which make lexint builds"),
     Case("tests/jad.sh", JAD),
@@ -79,6 +80,14 @@ CASES = [
     Case("make vendor DEST=/proc", "/proc can't be written to"),
     Case("make vendor DEST=. WITH=nothing", "WITH has nothing, which is none of "),
     Case("make install PREFIX=usr", "PREFIX=usr: it has to begin with a slash"),
+    Case("make install PREFIX=", "PREFIX=: it has to begin with a slash"),
+    Case("tools/gate.sh --help", "usage: tools/gate.sh"),
+    Case("python3 tools/check_literals.py --help", "Reads each integer literal"),
+    Case("packaging/dist.sh --help", "usage: packaging/dist.sh [check]"),
+    Case("packaging/test_dist.sh --help", "usage: packaging/test_dist.sh"),
+    Case("packaging/assembly.sh", "usage: packaging/assembly.sh jadvolni.S VERDICT"),
+    Case("packaging/sbom.sh", "usage: packaging/sbom.sh VERSION COMMIT TOOLCHAIN VERDICT"),
+    Case("packaging/as_user.sh", "usage: as_user.sh FOLDER [packages]"),
     # From here on the tree has a release of one file, and then a bad line.
     Case("mkdir dist; sha256sum /dev/null > dist/SHA256SUMS; packaging/test_dist.sh",
          "lacks: dist/*.deb (make dist writes them where debhelper and dh-python are)"),
@@ -95,6 +104,17 @@ CASES = [
          "neither a cause nor a case of one: ======="),
     Case("echo ======= >> bench/calls.tsv; python3 tools/documents.py",
          "no call with its counts: ======="),
+    Case("printf '== x\\nerror: y\\n' > tools/must_not_compile.txt;"
+         " python3 tools/must_not_compile.py",
+         "tools/must_not_compile.txt: x: there is no line `// here`"),
+    Case("> tools/must_not_compile.txt; python3 tools/must_not_compile.py", "no program"),
+    Case("rm tools/must_not_compile.txt; python3 tools/must_not_compile.py > out",
+         "No such file or directory"),
+    Case("printf '\\377' >> bench/calls.txt; bench/calls --library LICENSE-MIT",
+         "bench/calls: 'ascii' codec"),
+    Case("rm bench/calls.txt; bench/calls --library LICENSE-MIT > out", "No such file"),
+    Case("rm tools/fields.txt; python3 tools/documents.py > out",
+         "tools/fields.txt: No such file"),
 ]
 
 
@@ -103,9 +123,9 @@ def wrong_of(case: Case, tree: str) -> str:
     words = ["sh", "-c", case.command] if ">" in case.command else case.command.split()
     ran = subprocess.run(words, cwd=tree, stdin=subprocess.DEVNULL, timeout=60,
                          stdout=subprocess.PIPE, stderr=subprocess.STDOUT, errors="replace")
-    if ran.returncode and case.told in ran.stdout and "Traceback" not in ran.stdout:
+    if ran.returncode and case.message in ran.stdout and "Traceback" not in ran.stdout:
         return ""
-    return f"{case.command}: status {ran.returncode}, without '{case.told}':\n{ran.stdout}"
+    return f"{case.command}: status {ran.returncode}, without '{case.message}':\n{ran.stdout}"
 
 
 def main() -> int:

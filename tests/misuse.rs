@@ -16,8 +16,8 @@ pub fn misuse() -> usize {
     {
         let mut columns = [TableColumn::of(&mut numbers), TableColumn::of_texts(&mut texts)];
         let skipping = parse_table_skipping(&text, &comma, &mut columns, &mut bad).unwrap();
-        let told = skipping.bad.len() + rows.read(&mut columns).unwrap() + rows.block().len();
-        return told + texts[0].of(&text).len() + usize::from(numbers[0]);
+        let sum = skipping.bad.len() + rows.read(&mut columns).unwrap() + rows.block().len();
+        return sum + texts[0].of(&text).len() + usize::from(numbers[0]);
     }
     #[cfg(misuse = "1")] // E0499
     return rows.read(&mut [TableColumn::of(&mut numbers), TableColumn::of(&mut numbers)]).unwrap();

@@ -73,9 +73,9 @@ def run(command: Sequence[str], env: Optional[Dict[str, str]] = None, cwd: Optio
     """What a command writes to standard output. It has to end with 0."""
     done = subprocess.run(command, input=given, stdout=subprocess.PIPE, stderr=subprocess.PIPE,
                           timeout=900, env=env, cwd=cwd)
-    said, told = (stream.decode(errors="replace") for stream in (done.stdout, done.stderr))
+    said, errors = (stream.decode(errors="replace") for stream in (done.stdout, done.stderr))
     if done.returncode:
-        raise Failed(f"{' '.join(command)}\nended with {done.returncode}\n{said}{told}")
+        raise Failed(f"{' '.join(command)}\nended with {done.returncode}\n{said}{errors}")
     return said
 
 

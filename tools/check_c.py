@@ -210,15 +210,16 @@ def install(place: Place) -> str:
     run(["make", "-s", *BUILT, "install-lib", f"DESTDIR={below}", *INSTALLED], cwd=TOP)
     share = f"{below}/usr/share"
     pages = {name[:-2] for name in os.listdir(f"{share}/man/man3")}
-    told = {*CALLS, *re.findall(r"jadvolni\w*", text_of("packaging", "jadvolni.3.in"))}
-    wrong = {*CALLS} - pages | {name for name in pages - told if not name.endswith("_column_part")}
+    named = {*CALLS, *re.findall(r"jadvolni\w*", text_of("packaging", "jadvolni.3.in"))}
+    wrong = {*CALLS} - pages | {name for name in pages - named if not name.endswith("_column_part")}
     if wrong:
         raise Failed(f"no page, or not a word of it there: {sorted(wrong)}")
     missing = {"LICENSE-APACHE", "LICENSE-MIT", "NOTICE"} - set(os.listdir(f"{share}/doc/jadvolni"))
     if missing:
         raise Failed(f"not installed: {sorted(missing)}")
     refused = "! make -n install-lib PREFIX="
-    run(["sh", "-c", f"{refused}'~/x' && {refused}'/x&y' && {refused}/x DESTDIR='/x`y`'"], cwd=TOP)
+    run(["sh", "-c", f"{refused}'~/x' && {refused} && {refused}'/x&y'"
+         f" && {refused}/x DESTDIR='/x`y`'"], cwd=TOP)
     return f"{sum(len(files) for _, _, files in os.walk(below))} files"
 
 
@@ -317,6 +318,9 @@ def cargo(place: Place) -> str:
     on_full_device(place.path("target/debug/examples/ten_lines"))
     settings = ["cargo", "run", *alone, "--example", "settings", "80", "7"]
     answer(run(settings, where, crates), "port 80, 7 percent\n")
+    page = run(["cargo", "run", *alone, "--features=std", "--example", "bad_rows", "--", "--help"],
+               where, crates)
+    answer(page.partition("\n")[0], "usage: bad_rows NAME < FILE")
     passed = re.findall(r"(?m)^test result: ok. ([0-9]+) passed", said)
     if shutil.which("cargo-clippy"):
         run(["cargo", "clippy", *alone, "--all-features", "--all-targets", "--", "-D", "warnings"],

@@ -23,15 +23,15 @@ Words = Tuple[str, ...]
 
 
 class Case(NamedTuple):
-    """A run: what the program is given, what it says to standard output, its status, what it tells
-    standard error, its arguments, what the shell redirects, how many KiB of memory it may take, if
-    not as many as there are, and the folder, if another one has a program of the name."""
+    """A run: the program, its standard input, its output, status and errors, its arguments, what
+    the shell redirects, the KiB of memory that it may take, if there is a limit, and the folder,
+    if another one has a program of the name."""
 
     program: str
     given: bytes = b""
     said: str = ""
     status: int = 0
-    told: str = ""
+    errors: str = ""
     words: Words = ()
     redirected: str = ""
     memory: int = 0
@@ -52,9 +52,9 @@ def adds_up(program: str, front: bytes = b"", words: Words = ()) -> Iterator[Cas
     yield Case(program, front + b"1\n", "", 2, f"{program}: {IS_FULL}", words, FULL)
 
 
-def faults(program: str, told: Dict[bytes, str], words: Words = ()) -> Iterator[Case]:
+def faults(program: str, errors: Dict[bytes, str], words: Words = ()) -> Iterator[Case]:
     """Inputs, each with what the program reports of it."""
-    for given, fault in told.items():
+    for given, fault in errors.items():
         yield Case(program, given, "", 1, f"{program}: {fault}", words)
 
 
@@ -123,8 +123,6 @@ def of_columns() -> Iterator[Case]:
     yield Case("records", b"  1rent    -5365bank-80000" * 50000, "-4000250000\n")
     yield from faults("records", {b"  1rent    -5\n": "row 2, cell 1, byte 14: too few cells",
                                   b"  1rent    -x  2": "row 1, cell 3, byte 12: invalid digit"})
-    for words in ((), ("1", "2"), ("0",), ("",), ("x",), ("-1",), ("18446744073709551616",)):
-        yield Case("csv_column", b"1\n", "", 2, "usage: csv_column COLUMN < FILE", words)
 
 
 def of_exports() -> Iterator[Case]:
@@ -159,8 +157,6 @@ def of_exports() -> Iterator[Case]:
     separator = "the separator has to be ASCII, and no sign and no digit of the radix"
     for marks, fault in ((";,,", point), (";5.", point), (";,5", separator)):
         yield Case(program, names, "", 2, f"{program}: {marks}: {fault}", (marks,))
-    for words in ((), ("",), (";,",), (";,.;",), (";,.", "x")):
-        yield Case(program, names, "", 2, f"{program}: usage: bank_export MARKS < FILE", words)
     yield Case(program, b"", "", 2, f"{program}: {IS_FOLDER}", bank, FOLDER)
     yield Case(program, names + rows, "", 2, f"{program}: {IS_FULL}", bank, FULL)
 
@@ -174,7 +170,7 @@ def by_name() -> Iterator[Case]:
     yield Case(program, b"cents\n" + b"0" * 70000 + b"7\n", "7\n", words=words)
     yield Case(program, export, "0\n", words=words)
     no_room = "a row has no room: a quote isn't closed"
-    for given, told in {
+    for given, errors in {
         b"": "the table has no header",
         b"day,cent\n": 'no column "cents": the header has "day", "cent"',
         b"cents,cents\n": 'more than one column "cents": the header has "cents", "cents"',
@@ -186,19 +182,18 @@ def by_name() -> Iterator[Case]:
         b"\"" + b"2\n" * 1000000: f"byte 0: {no_room}",
         b"cents\n" + GREATEST + b"\n1\n": f"row 2: {SUM_LEAVES}",
     }.items():
-        yield from faults(program, {given: told}, words)
+        yield from faults(program, {given: errors}, words)
     yield Case(program, b"", "", 2, f"{program}: {IS_FOLDER}", words, FOLDER)
     yield Case(program, b"cents\n1\n", "", 2, f"{program}: {IS_FULL}", words, FULL)
-    yield Case(program, b"", "", 2, "usage: named_column NAME < FILE")
 
 
 def with_bad_rows() -> Iterator[Case]:
     """The program that skips bad rows and reports them."""
     program, words = "bad_rows", ("b",)
 
-    def skips(given: bytes, said: str, *told: str) -> Case:
-        return Case(program, given, f"{said}\n", 1 if told else 0,
-                    "\n".join(f"{program}: {it}" for it in told), words)
+    def skips(given: bytes, said: str, *errors: str) -> Case:
+        return Case(program, given, f"{said}\n", 1 if errors else 0,
+                    "\n".join(f"{program}: {it}" for it in errors), words)
     yield skips(b"a,b\n1,2\n,-5", "-3")
     yield skips(b"a,b\n", "0")
     yield skips(b"\xef\xbb\xbfa,\"b\"\n1,2\n\"x\ny\",7x\nc\n1,3\n", "5",
@@ -219,48 +214,77 @@ def with_bad_rows() -> Iterator[Case]:
     }, words)
     yield Case(program, b"", "", 2, f"{program}: {IS_FOLDER}", words, FOLDER)
     yield Case(program, b"b\n1\n", "", 2, f"{program}: {IS_FULL}", words, FULL)
-    yield Case(program, b"", "", 2, "usage: bad_rows NAME < FILE")
 
 
 def of_words() -> Iterator[Case]:
     """The programs that read no input."""
     yield Case("ten_lines", said="err Overflow 19\n")
-    yield Case("ten_lines", status=1, told=IS_FULL, redirected=FULL)
+    yield Case("ten_lines", status=1, errors=IS_FULL, redirected=FULL)
     bank = "Rent: -123450\nBooks: 700\n"
     yield Case("statement", said=bank + "row 2, byte 37: invalid digit\n")
-    yield Case("statement", status=1, told=IS_FULL, redirected=FULL)
+    yield Case("statement", status=1, errors=IS_FULL, redirected=FULL)
     wrong = 'line 2, column 3: "12,5o": invalid digit at byte 4 of the cell\n'
     yield Case("bank_statement", said=bank + wrong)
-    yield Case("bank_statement", status=2, told=f"bank_statement: {IS_FULL}", redirected=FULL)
+    yield Case("bank_statement", status=2, errors=f"bank_statement: {IS_FULL}", redirected=FULL)
     yield Case("colour")
     yield Case("colour", said="30 144 255\n0 1 2\n", words=("1e90FF", "000102"))
-    yield Case("colour", status=2, told=f"colour: {IS_FULL}", words=("1e90FF",), redirected=FULL)
+    yield Case("colour", status=2, errors=f"colour: {IS_FULL}", words=("1e90FF",), redirected=FULL)
     yield Case("settings", said="port 65535, 0 percent\n", words=("65535", "0"))
-    yield Case("settings", status=2, told="usage: settings PORT PERCENT", words=("80",))
-    yield Case("settings", status=2, told=f"settings: {IS_FULL}", words=("80", "5"),
+    yield Case("settings", status=2, errors="usage: settings PORT PERCENT", words=("80",))
+    yield Case("settings", status=2, errors=f"settings: {IS_FULL}", words=("80", "5"),
                redirected=FULL)
     for words, fault in SETTING_FAULTS.items():
-        yield Case("settings", status=2, told=f"settings: {fault}", words=words)
+        yield Case("settings", status=2, errors=f"settings: {fault}", words=words)
     for word, fault in COLOUR_FAULTS.items():
-        told = f"colour: {word}: {fault}"
-        yield Case("colour", b"", "30 144 255\n", 1, told, ("1e90FF", word))
+        errors = f"colour: {word}: {fault}"
+        yield Case("colour", b"", "30 144 255\n", 1, errors, ("1e90FF", word))
+
+
+PAGES = {
+    "sum": ("", "Adds up integers, one a line.", "a wrong line"),
+    "ledger": ("", "Adds up the amounts of lines `NAME AMOUNT`.", "a wrong row"),
+    "records": ("", "Adds up the amounts of records of 13 bytes.", "a wrong record"),
+    "csv_column": ("COLUMN ", "Adds up that column, counted from 1.", "a wrong row"),
+    "bank_export": ("MARKS ", "Prints an export, and the sum of its amounts.", "a bad row"),
+    "named_column": ("NAME ", "Adds up the column of that name.", "a wrong row"),
+    "bad_rows": ("NAME ", "Adds up the column of that name, without bad rows.", "a bad row"),
+}
+REFUSED: Dict[str, Tuple[Words, ...]] = {
+    "csv_column": ((), ("0",), ("",), ("x",), ("-1",), ("18446744073709551616",)),
+    "bank_export": ((), ("",), (";,",), (";,.;",)),
+    "named_column": ((),),
+    "bad_rows": ((),),
+}
+
+
+def of_arguments() -> Iterator[Case]:
+    """The programs that read standard input, asked for their page, and with wrong arguments."""
+    for program, (words, does, wrong) in PAGES.items():
+        page = (f"usage: {program} {words}< FILE\n{does}"
+                f" Exit status 1: {wrong}, or too large a sum; 2: reading or writing failed.")
+        yield Case(program, b"1\n", f"{page}\n", words=("--help",))
+        yield Case(program, b"1\n", f"{page}\n", words=("--help", "more"))
+        yield Case(program, b"", "", 2, f"{program}: {IS_FULL}", ("--help",), FULL)
+        for refused in (*REFUSED.get(program, (("more",), ("-",), ("",))), ("1", "2")):
+            yield Case(program, b"1\n", "", 2, page, refused)
 
 
 def of_memory() -> Iterator[Case]:
     """The programs that keep a row or all of their input, with too little memory for it."""
     digits, cells = b"1" * 40_000_000, b"," * 2_000_000
     no_memory, little = "Cannot allocate memory", 50_000
-    for program, told, words in (("sum", f"standard input: {no_memory}", ()),
-                                 ("ledger", f"memory for a row: {no_memory}", ()),
-                                 ("csv_column", f"memory for a row: {no_memory}", ("1",)),
-                                 ("bank_export", f"standard input: {no_memory}", (";,.",))):
-        yield Case(program, digits, "", 2, f"{program}: {told}", words, "", little, "c")
+    for program, errors, words in (("sum", f"standard input: {no_memory}", ()),
+                                   ("ledger", f"memory for a row: {no_memory}", ()),
+                                   ("csv_column", f"memory for a row: {no_memory}", ("1",)),
+                                   ("bank_export", f"standard input: {no_memory}", (";,.",))):
+        yield Case(program, digits, "", 2, f"{program}: {errors}", words, "", little, "c")
     yield Case("csv_column", cells, "", 2, f"csv_column: memory for the columns: {no_memory}",
                ("1",), "", little, "c")
     yield Case("csv_column", digits, "", 2, "csv_column: std::bad_alloc", ("1",), "", little, "cpp")
 
 
-CASES = [*of_columns(), *of_exports(), *by_name(), *with_bad_rows(), *of_words(), *of_memory()]
+CASES = [*of_columns(), *of_exports(), *by_name(), *with_bad_rows(), *of_words(), *of_arguments(),
+         *of_memory()]
 
 
 def check(place: Place, case: Case, program: str) -> None:
@@ -269,7 +293,7 @@ def check(place: Place, case: Case, program: str) -> None:
     command = ["sh", "-c", f'{limit}exec "$@" {case.redirected}', "sh", program, *case.words]
     done = subprocess.run(command, input=case.given, stdout=subprocess.PIPE,
                           stderr=subprocess.PIPE, timeout=60, env=place.environment())
-    wanted = (case.status, case.said.encode(), f"{case.told}\n".encode() if case.told else b"")
+    wanted = (case.status, case.said.encode(), f"{case.errors}\n".encode() if case.errors else b"")
     answered = (done.returncode, done.stdout, done.stderr)
     if answered != wanted:
         raise Failed(f"{case.program} {' '.join(case.words)} {case.redirected}, given "

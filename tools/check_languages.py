@@ -181,9 +181,9 @@ def compared(language: Language, group: Group, name: str, texts: list[str]) -> i
         elif kind:
             counts[kind] += 1
     read = sum(value is not None for value in their.values())
-    told = [f"{counts[kind]} {kind}" for kind in formats_page.HEADINGS if counts[kind]]
+    counted = [f"{counts[kind]} {kind}" for kind in formats_page.HEADINGS if counts[kind]]
     print(f"{language.name}: {name} reads {read} of {len(texts)}; differences that FORMATS.md "
-          f"lists: {', '.join(told) or 'none'}; others: {len(untold)}", flush=True)
+          f"lists: {', '.join(counted) or 'none'}; others: {len(untold)}", flush=True)
     print("\n".join(untold[:40]), end="\n" if untold else "")
     return len(untold)
 
@@ -207,14 +207,14 @@ def main() -> int:
     parser.add_argument("--seed", type=int, default=1)
     parser.add_argument("--literals", type=positive, default=2000, help="how many of each language")
     parser.add_argument("languages", nargs="*")
-    told = parser.parse_args()
+    chosen = parser.parse_args()
     groups = {group.name: group for group in groups_of(LANGUAGES)}
     known = {language.name for language in ASKED}
-    if not known.issuperset(told.languages):
-        sys.exit("nothing is asked for: " + ", ".join(sorted(set(told.languages) - known)))
+    if not known.issuperset(chosen.languages):
+        sys.exit("nothing is asked for: " + ", ".join(sorted(set(chosen.languages) - known)))
     made(BUILT[0], "lexint")
-    asked = [language for language in ASKED if language.name in (told.languages or known)]
-    untold = sum(untold_differences(language, groups[language.name], told.seed, told.literals)
+    asked = [language for language in ASKED if language.name in (chosen.languages or known)]
+    untold = sum(untold_differences(language, groups[language.name], chosen.seed, chosen.literals)
                  for language in asked)
     unasked = ", ".join(sorted(set(groups) - known))
     print(f"not compared, since nothing is asked for them: {unasked}")

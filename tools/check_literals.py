@@ -95,11 +95,11 @@ def wrong_answers(library: Library, sources: Sources) -> list[str]:
     found = list(literals_of(sources))
     numbers = dict(found)
     values = {text: value_of(number, sources is C) for text, number in numbers.items()}
-    told = sources.judge.ask(random.Random(1).sample(sorted(numbers), 2000))
-    refused = [text for text, value in told.items() if value is None]
-    print(f"{len(found)} literals, {len(numbers)} different ones; of {len(told)} the compiler "
+    judged = sources.judge.ask(random.Random(1).sample(sorted(numbers), 2000))
+    refused = [text for text, value in judged.items() if value is None]
+    print(f"{len(found)} literals, {len(numbers)} different ones; of {len(judged)} the compiler "
           f"refuses {refused}", flush=True)
-    wrong = [text for text, value in told.items() if value not in (values[text], None)]
+    wrong = [text for text, value in judged.items() if value not in (values[text], None)]
     # (C up to C17 has no separator: literals with one are those of headers of C++)
     return wrong + [
         f"{group.name}: {text}" for group in groups_of(LANGUAGES) if group.name in sources.formats
@@ -108,6 +108,9 @@ def wrong_answers(library: Library, sources: Sources) -> list[str]:
 
 
 if __name__ == "__main__":
+    if sys.argv[1:]:
+        print(__doc__, file=sys.stderr)
+        sys.exit(2)
     LOADED = Library(os.path.join(TOP, "build", "libjadvolni.so"))
     WRONG = wrong_answers(LOADED, C) + wrong_answers(LOADED, RUST)
     print(f"read otherwise: {len(WRONG)}", *WRONG[:20], sep="\n")

@@ -1,8 +1,8 @@
 """What compilers say of calls that break a binding's conditions: a part of make test-c.
 
 The files of FILES, in tests/c, have such calls by number, and what each compiler has to say of it.
-Number 0 breaks none, and is compiled without a word; but a standard that is too old is told. So has
-tests/misuse.rs of the crate for Rust, whose compiler refuses them.
+Number 0 breaks none, and is compiled without a word, unless the standard is too old. misuse.rs of
+tests/ has the like for Rust, whose compiler refuses them.
 """
 from __future__ import annotations
 

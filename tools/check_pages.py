@@ -199,8 +199,8 @@ def wrong_figures(text: str, pages: dict[str, str]) -> list[str]:
     for line in re.findall(r"(?m)^- .*", text):
         targets = [target.partition("#")[0] for target in LINK.findall(line)]
         there = {it for target in targets for it in FIGURE.findall(pages.get(target, ""))}
-        told = FIGURE.findall(CODE.sub("", LINK.sub("", line))) if targets else []
-        lacking = [it for it in told if it not in there]
+        figures = FIGURE.findall(CODE.sub("", LINK.sub("", line))) if targets else []
+        lacking = [it for it in figures if it not in there]
         found += [f"README.md: {' and '.join(targets)} lacks {it}" for it in lacking]
     return found
 

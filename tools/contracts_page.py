@@ -17,7 +17,7 @@ GHOST = re.compile(
     r"(?m)^    ((?:ghost (?!use\b)|const |type )[^{;]*(?:\{[^{}]*(?:\{[^{}]*\}[^{}]*)*\})?);")
 
 # What a source file has of the definitions of a crate: the crate, the file and the names.
-IMPORT = re.compile(r"(?m)^ghost use Rattle\.(\w+)\.specs\.([\w.]+)\.\{([^}]*)\};")
+IMPORT = re.compile(r"(?m)^(?:ghost )?use Rattle\.(\w+)\.specs\.([\w.]+)\.\{([^}]*)\}")
 
 
 class Seen(NamedTuple):
@@ -162,12 +162,20 @@ def named_in(top: str, text: str, clauses: str) -> set[Definition]:
             for it in [definition_of(top, crate, module, name)] if it}
 
 
+def named_by_grammar(top: str) -> set[Definition]:
+    """The definitions that those shown in docs/GRAMMAR.md name, where the tree has these."""
+    file = os.path.join(top, "crates", "lexical_laws", "specs", "Integer.antt")
+    text = source.read(file) if os.path.isfile(file) else ""
+    return named_in(top, text, text)
+
+
 def definition_lines(found: set[Definition]) -> list[str]:
     """The list of these definitions, by their names."""
     if not found:
         return []
     return ["## Definitions", "",
-            "What the clauses name, and what the comment above each definition says.", "",
+            "What the clauses name, and the definitions shown in [GRAMMAR.md](GRAMMAR.md), each "
+            "with the comment above it.", "",
             "| Name | File | Comment |", "|---|---|---|", *(it.line() for it in sorted(found)), ""]
 
 
@@ -226,5 +234,6 @@ def page(top: str, crates: list[str]) -> str:
     named = set[Definition]()
     for crate in crates:
         found += of_crate(top, crate, named)
+    named |= named_by_grammar(top)
     found += definition_lines(named)
     return "\n".join(found).rstrip() + "\n"

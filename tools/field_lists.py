@@ -80,7 +80,11 @@ class Region(NamedTuple):
 def rows_of(top: str, path: str, between: str, count: int) -> list[list[str]]:
     """The lines of a list but its comments, each in `count` parts. Others end the program."""
     rows = []
-    for number, line in enumerate(source.read(os.path.join(top, path)).splitlines(), 1):
+    try:
+        text = source.read(os.path.join(top, path))
+    except OSError as error:
+        sys.exit(f"{path}: {error.strerror}")
+    for number, line in enumerate(text.splitlines(), 1):
         parts = line.split(between)
         if line.startswith("#"):
             continue

@@ -24,15 +24,15 @@ def setter(name: str, value: int) -> str:
     return f".{name}(Some(b'{byte}'))"
 
 
-def told(group: Group, word: str) -> list[str]:
+def notes_of(group: Group, word: str) -> list[str]:
     """What the data say of a language under a word, without the pattern."""
-    texts = [text for kind, text in group.told if kind == word]
+    texts = [text for kind, text in group.notes if kind == word]
     return [text.split(" | ", 1)[1] for text in texts] if word in HEADINGS else texts
 
 
 def patterns(group: Group, word: str) -> list[str]:
     """The patterns of the texts in which a format and its language differ."""
-    return [text.split(" | ", 1)[0] for kind, text in group.told if kind == word]
+    return [text.split(" | ", 1)[0] for kind, text in group.notes if kind == word]
 
 
 def chain(group: Group) -> list[str]:
@@ -55,16 +55,17 @@ def table(group: Group) -> list[str]:
 def unsaid(group: Group) -> list[str]:
     """In what a format and its language differ."""
     lines = [f"- {heading}: {text}"
-             for word, heading in HEADINGS.items() for text in told(group, word)]
+             for word, heading in HEADINGS.items() for text in notes_of(group, word)]
     return ["Known deviations:", "", *(lines or ["- Nothing that is known."]), ""]
 
 
 def section(group: Group) -> list[str]:
     """What is said of a language."""
-    reference = "; ".join(told(group, "reference"))
-    suffixes = " ".join(told(group, "suffixes")) or "None."
+    reference = "; ".join(notes_of(group, "reference"))
+    suffixes = " ".join(notes_of(group, "suffixes")) or "None."
     return [
-        f"## {group.shows}", "", f"`lexical_formats::{group.name}()`", "", *told(group, "rule"), "",
+        f"## {group.shows}", "", f"`lexical_formats::{group.name}()`", "",
+        *notes_of(group, "rule"), "",
         f"Reference: {reference}.", "", f"Suffixes: {suffixes}", "",
         *chain(group), *table(group), *unsaid(group),
     ]

@@ -36,7 +36,7 @@ DRIVER = os.path.join(TOP, "tests", "from_str_radix.rs")
 # How many lines a run gets: those of a line or two meet the ends of reads, long ones full buffers.
 LINES_OF_RUNS = (1, 2, 5, 50, 1000, 20000, 20000)
 SECONDS = 20
-TOLD = 1000  # characters of a wrong answer
+SHOWN = 1000  # characters of a wrong answer
 DIGITS = b"0123456789abcdefghijklmnopqrstuvwxyz"
 PLAIN = {radix: replace(STANDARD, mantissa_radix=radix) for radix in range(2, 37)}
 LONGEST_INT = 4000  # digits; newer Pythons refuse more
@@ -94,21 +94,21 @@ def int_expects(question: Question) -> Optional[str]:
     return "err Underflow " if value < -limit else f"ok {value}\n"
 
 
-def rust_expects(question: Question, told: str) -> Optional[str]:
-    """How the answer begins by what `from_str_radix` told; None where it told nothing.
+def rust_expects(question: Question, said: str) -> Optional[str]:
+    """How the answer begins by what `from_str_radix` says; None where it says nothing.
 
     One thing differs: a sign alone is an InvalidDigit there, and Empty behind the sign here. Both
     take a plus at every type and a minus at the signed ones alone, both read `-0` as 0, and both
     tell an overflow and no byte behind it.
     """
-    if told == "none":
+    if said == "none":
         return None
-    if told.startswith("ok "):
-        return told + "\n"
+    if said.startswith("ok "):
+        return said + "\n"
     signs = (b"+", b"-") if TYPES[question.name].signed else (b"+",)
-    if told == "err InvalidDigit" and question.text in signs:
+    if said == "err InvalidDigit" and question.text in signs:
         return "err Empty 1\n"
-    return "err " + RUST_FAULTS[told]
+    return "err " + RUST_FAULTS[said]
 
 
 class Comparison:
@@ -155,10 +155,10 @@ class Comparison:
             return None
         asked = [b"%s %d %s\n" % (question.name, question.radix, question.text)
                  for question in questions]
-        told = self.run(self.driver, b"".join(asked)).splitlines()
-        if len(told) != len(asked):
-            sys.exit(f"fuzz: from_str_radix answered {len(told)} of {len(asked)} lines")
-        return self.unexpected("from_str_radix", questions, map(rust_expects, questions, told))
+        said = self.run(self.driver, b"".join(asked)).splitlines()
+        if len(said) != len(asked):
+            sys.exit(f"fuzz: from_str_radix answered {len(said)} of {len(asked)} lines")
+        return self.unexpected("from_str_radix", questions, map(rust_expects, questions, said))
 
     def unexpected(self, judge: str, questions: List[Question],
                    expected: Iterable[Optional[str]]) -> Optional[Difference]:
@@ -186,9 +186,9 @@ def first_difference(expected: List[str], output: str) -> Difference:
     for number, wanted in enumerate(expected):
         if not output.startswith(wanted, place):
             lines = output[place:].splitlines(True)[:max(1, wanted.count("\n"))]
-            return Difference(number, "reference", wanted, "".join(lines)[:TOLD])
+            return Difference(number, "reference", wanted, "".join(lines)[:SHOWN])
         place += len(wanted)
-    return Difference(len(expected) - 1, "reference", "no more lines\n", output[place:][:TOLD])
+    return Difference(len(expected) - 1, "reference", "no more lines\n", output[place:][:SHOWN])
 
 
 # ---- lines

@@ -5,6 +5,7 @@
 # begins with `skipped:`, this machine lacks what the part needs. Parts of seconds come first: if one
 # fails, no long one begins. The last line counts the parts.
 set -u
+[ $# = 0 ] || { echo "usage: tools/gate.sh" >&2; exit 2; }
 cd "$(dirname "$0")/.." || exit 1
 export RT="${RT:-rt}" PYTHONUNBUFFERED=1
 begin=$(date +%s) passed=0 failed=0 skipped=0
@@ -91,7 +92,7 @@ in_copy() { # NAME COMMAND..
     (cd "$copy" && "$@") > "$copy/$name.log" 2>&1
     echo $? > "$copy/$name.status"
 }
-told() { # NAME
+report() { # NAME
     wait "$beside"
     cat "$copy/$1.log"
     return "$(cat "$copy/$1.status")"
@@ -151,10 +152,10 @@ part devices devices
 part answers python3 tools/run_rows.py
 part shells tests/shell_snippet.sh crates/lexint/out/lexint
 part jad tests/jad.sh crates/jad/out/jad
-part libraries told libraries
-part javascript told javascript
-part page told page
-part programs told programs
-part callers told callers
+part libraries report libraries
+part javascript report javascript
+part page report page
+part programs report programs
+part callers report callers
 part calls bench/calls --library "$copy/build/libjadvolni.a"
 total

@@ -73,13 +73,13 @@ CALLS := $(EXPORTS) $(addsuffix _part,$(filter %_column,$(EXPORTS))) \
 PAGES = $(DESTDIR)$(MANDIR)/man3
 TO = $(DESTDIR)$(LIBDIR)
 
-# A path that is no path from the root, as `~/.local` of a shell that leaves it so, or that sed, a shell or pkg-config
+# A path that is empty or not from the root, as `~/.local` of a shell that leaves it so, or that sed, a shell or pkg-config
 # reads otherwise would be written wrong.
 STRANGE := " ' ` \ | & $$ \#
 # What a shell reads within quotes.
 READ := " ` \ $$
 has = $(strip $(foreach character,$(1),$(findstring $(character),$(2))))
-path = $(if $(filter-out /%,$(firstword $($(1))))$(call has,$(STRANGE),$($(1))), \
+path = $(if $(if $(filter /%,$(firstword $($(1)))),$(call has,$(STRANGE),$($(1))),no), \
     $(error $(1)=$($(1)): it has to begin with a slash, and to have none of $(STRANGE)))
 paths:
 	@: $(foreach name,PREFIX LIBDIR INCLUDEDIR MANDIR,$(call path,$(name)))

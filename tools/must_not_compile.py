@@ -18,6 +18,8 @@ import sys
 import tempfile
 from typing import NamedTuple
 
+import source
+
 TOP = os.path.dirname(os.path.dirname(os.path.abspath(__file__)))
 RT = os.environ.get("RT", "rt")
 BELOW = ("lexical_util", "lexical_digits", "lexical_parse_integer")
@@ -43,9 +45,11 @@ def program_of(part: str) -> Program:
 
 def programs() -> tuple[str, list[Program]]:
     """What all programs begin with, and each of them."""
-    with open(PROGRAMS, encoding="utf-8") as file:
-        head, *others = map(program_of, re.split(r"(?m)^== ", file.read())[1:])
-    return head.text, others
+    found = list(map(program_of, re.split(r"(?m)^== ", source.read(PROGRAMS))[1:]))
+    wrong = [it.name for it in found if it.error and not re.search(r"(?m)// here$", it.text)]
+    if not found or wrong:
+        sys.exit(f"{PROGRAMS}: {', '.join(wrong) or 'no program'}: there is no line `// here`")
+    return found[0].text, found[1:]
 
 
 def repository(root: str) -> str:
@@ -109,4 +113,7 @@ def main() -> int:
 
 
 if __name__ == "__main__":
-    sys.exit(main())
+    try:
+        sys.exit(main())
+    except OSError as error:
+        sys.exit(f"tools/must_not_compile.py: {error}")

@@ -70,7 +70,7 @@ def tokens_of(source: bytes) -> Iterator[Token]:
 TRUTH = {b"true": True, b"false": False}
 
 
-def told(answer: Answer, is_partial: bool) -> str:
+def shown(answer: Answer, is_partial: bool) -> str:
     """An answer as a line."""
     if isinstance(answer, Value):
         return f"ok {answer.value} {answer.stop}\n" if is_partial else f"ok {answer.value}\n"
@@ -123,7 +123,7 @@ class Session:
         kind = TYPES.get(name)
         if not space or kind is None:
             return "bad line\n"
-        return told(self.fault or parse(self.form, kind, text, is_partial), is_partial)
+        return shown(self.fault or parse(self.form, kind, text, is_partial), is_partial)
 
     def changed(self, rest: bytes) -> str:
         """The answer to a field and a value."""
@@ -204,8 +204,12 @@ def main() -> int:
         print(__doc__, file=sys.stderr)
         return 2
     sys.stdout.write(output_of(sys.stdin.buffer.read()))
+    sys.stdout.flush()
     return 0
 
 
 if __name__ == "__main__":
-    sys.exit(main())
+    try:
+        sys.exit(main())
+    except OSError as error:
+        sys.exit(f"tools/reference_lines.py: {error}")

@@ -23,7 +23,7 @@ FLAGS = {it.word: it.name for it in fields_of(TOP) if it.kind == "flag"}
 BYTES = {it.word: it.name for it in fields_of(TOP) if it.kind == "punctuation"}
 HEADING = re.compile(r"(={2,3}) (\w+): (.+)")
 # what a line of tools/languages.txt says to a user, before the rows of its language
-TOLD = re.compile(r"(reference|rule|suffixes|more|less|otherwise) \| (.+)")
+NOTE = re.compile(r"(reference|rule|suffixes|more|less|otherwise) \| (.+)")
 # The fewest texts of a language that are read, and that are refused.
 FEWEST = 4
 TYPES = [name.decode() for name in reference.TYPES]
@@ -98,13 +98,13 @@ class Row(NamedTuple):
 
 @dataclass
 class Group:
-    """Rows that show one thing; of a language its fields, and what a user is told of it."""
+    """Rows that show one thing; of a language its fields, and what the pages say of it."""
 
     name: str
     shows: str
     fields: Optional[Fields] = None
     rows: List[Row] = field(default_factory=list)
-    told: List[Tuple[str, str]] = field(default_factory=list)
+    notes: List[Tuple[str, str]] = field(default_factory=list)
 
 
 @dataclass
@@ -186,11 +186,11 @@ def read_row(line: str, language: str = "json") -> Row:
     is_long = columns[-1] == "long"
     if len(columns) < 3 + is_long:
         raise Bad("no row")
-    parser, named, *asked, told = columns[:-1] if is_long else columns
+    parser, named, *asked, last = columns[:-1] if is_long else columns
     form: Format = named
     if named not in ("json", language):
         form = read_fields(named)
-    answer = read_answer(told, parser)
+    answer = read_answer(last, parser)
     if parser == "format" and not asked:
         return Row(parser, form, "", b"", answer, remark.strip(), is_long)
     if parser in ("complete", "partial") and len(asked) == 2 and asked[0] in TYPES:
@@ -222,10 +222,10 @@ class Reader:
             self.entry(line, self.files[-1].groups[-1])
 
     def entry(self, line: str, group: Group) -> None:
-        """What a user is told of a language, its fields, or a row."""
-        told = TOLD.fullmatch(line)
-        if told:
-            group.told.append((told[1], told[2]))
+        """What the pages say of a language, its fields, or a row."""
+        note = NOTE.fullmatch(line)
+        if note:
+            group.notes.append((note[1], note[2]))
         elif line.startswith(f"fields | {group.name} | "):
             group.fields = read_fields(line.split(" | ")[2])
         else:

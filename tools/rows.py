@@ -5,7 +5,7 @@
     python3 tools/rows.py --check    writes nothing, and fails where a file is another
 
 Either way each example of docs/GRAMMAR.md has to be one of the rows, and each text of
-docs/DIFFERENCES.md that is told to be answered so has to have a row with that answer.
+docs/DIFFERENCES.md that shows an answer has to be a row with that answer.
 
 A group of tools/languages.txt is a language: a function of `lexical_formats` makes its format, a
 line of fields says what that format is, and its rows name it. What a user has to know of the
@@ -53,10 +53,10 @@ def check_examples(path: str, rows: Iterable[Row]) -> None:
 
 def check_answers(path: str, rows: Iterable[Row]) -> None:
     """Ends the program where a document says `TEXT` is `ANSWER`, and no row says so."""
-    told = {(row.text, row.answer.name, tuple(row.answer.numbers)) for row in rows}
+    worked = {(row.text, row.answer.name, tuple(row.answer.numbers)) for row in rows}
     pattern = r"`([^`]*)` (?:is|\|) `(\w+)\(+([-\d, ]*)\)+`"
     for text, name, numbers in re.findall(pattern, source.read(path)):
-        if (text.encode(), name, tuple(map(int, numbers.split(", ")))) not in told:
+        if (text.encode(), name, tuple(map(int, numbers.split(", ")))) not in worked:
             page = os.path.basename(path)
             sys.exit(f"docs/{page}: no row says that `{text}` is {name}({numbers})")
 
@@ -121,9 +121,9 @@ def antt_answer(parser: str, answer: Answer) -> str:
 def antt_row(row: Row) -> str:
     """A row of a theorem, below its remark."""
     asked = [row.type, antt_text(row.text)] if row.parser != "format" else []
-    told = ", ".join([antt_format(row.format), *asked, antt_answer(row.parser, row.answer)])
+    words = ", ".join([antt_format(row.format), *asked, antt_answer(row.parser, row.answer)])
     remark = f"    -- {row.remark}\n" if row.remark else ""
-    return f"{remark}    ({told}) ∷\n"
+    return f"{remark}    ({words}) ∷\n"
 
 
 def antt_table(name: str, says: str, rows: List[Row]) -> str:

@@ -111,12 +111,12 @@ def lines_of(row: Row, presets: Dict[str, Fields]) -> Iterator[Tuple[bytes, byte
 
 def wrong_answers(program: str, rows: List[Row], presets: Dict[str, Fields]) -> List[str]:
     """What the program answers otherwise than the rows do."""
-    asked = [(row, line, told) for row in rows for line, told in lines_of(row, presets)]
+    asked = [(row, line, wanted) for row in rows for line, wanted in lines_of(row, presets)]
     answers = output_of(program, b"\n".join(line for _, line, _ in asked)).split(b"\n")[:-1]
     if len(answers) != len(asked):
         return [f"{program}: {len(answers)} answers to {len(asked)} lines"]
-    return [f"{program}: {row.format}: {line[:80]!r}: {answer!r}, and not {told!r}"
-            for (row, line, told), answer in zip(asked, answers) if answer != told]
+    return [f"{program}: {row.format}: {line[:80]!r}: {answer!r}, and not {wanted!r}"
+            for (row, line, wanted), answer in zip(asked, answers) if answer != wanted]
 
 
 def main(programs: List[str]) -> int:

@@ -49,7 +49,7 @@ template <class Call>
     return seen;
 }
 
-// Tells what a call is answered once, and then by few and by many turns: each has to answer alike.
+// Prints what a call answers once, and then over few and over many turns: all answers have to be equal.
 template <class Call>
 void count(const Case &asked, Call call) {
     std::string texts;

@@ -1,10 +1,7 @@
 /* Prints a bank's or a shop's export of days, accounts, purposes and amounts, and their sum: bank_export MARKS < FILE
  * These part fields, stand before cents, and group digits: ';,.' for -1.234,50 and ',.,' for "1,234.00". */
+#include "command.h"
 #include <jadvolni.h>
-#include <err.h>
-#include <stdio.h>
-#include <stdlib.h>
-#include <string.h>
 
 enum { ROWS = 1000 };
 static jadvolni_cell_text texts[3][ROWS];
@@ -28,9 +25,13 @@ static void print_row(const char *rows, size_t row) // and adds its amount; cont
     if (present[row >> 3] >> (row & 7) & 1) print_amount(cents[row]); else puts("no amount");
 }
 
+static const char page[] = "usage: bank_export MARKS < FILE\n"
+    "Prints an export, and the sum of its amounts."
+    " Exit status 1: a bad row, or too large a sum; 2: reading or writing failed.\n";
+
 int main(int count, char **arguments)
 {
-    if (count != 2 || strlen(arguments[1]) != 3) errx(2, "usage: bank_export MARKS < FILE");
+    check_arguments(count == 2 && strlen(arguments[1]) == 3, count, arguments, page);
     const uint8_t *marks = (const uint8_t *)arguments[1];
     const jadvolni_table table = {.separator = marks[0], .has_quotes = 1, .allows_blanks = 1, .skips_empty_rows = 1,
                                   .allows_returns = 1};

@@ -5,11 +5,8 @@
  * The first wrong cell is reported by its row and its place in this, counted from 1, and by its byte, counted
  * from 0.
  */
+#include "command.h"
 #include <jadvolni.h>
-#include <err.h>
-#include <stdio.h>
-#include <stdlib.h>
-#include <string.h>
 
 enum { ROWS = 1000 };
 

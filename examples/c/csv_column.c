@@ -13,13 +13,15 @@ static size_t cells_of_line(block *input)
     return cells;
 }
 
+static const char page[] = "usage: csv_column COLUMN < FILE\n"
+    "Adds up that column, counted from 1."
+    " Exit status 1: a wrong row, or too large a sum; 2: reading or writing failed.\n";
+
 int main(int count, char **arguments)
 {
-    uint64_t column;
-    if (count != 2 || jadvolni_parse_u64(arguments[1], strlen(arguments[1]), &column).status || column == 0) {
-        fprintf(stderr, "usage: csv_column COLUMN < FILE\n");
-        return 2;
-    }
+    uint64_t column = 0;
+    bool is_number = count == 2 && !jadvolni_parse_u64(arguments[1], strlen(arguments[1]), &column).status;
+    check_arguments(is_number && column > 0, count, arguments, page);
     block input = {.len = 0};
     column_sum numbers = {.table = {.separator = ','}, .column_count = cells_of_line(&input)};
     /* Where the first line has no such cell, it has one too few. */

@@ -2,8 +2,13 @@
  * two of them: records < FILE. Blanks may stand around an amount. */
 #include "column_sum.h"
 
-int main(void)
+static const char page[] = "usage: records < FILE\n"
+    "Adds up the amounts of records of 13 bytes."
+    " Exit status 1: a wrong record, or too large a sum; 2: reading or writing failed.\n";
+
+int main(int count, char **arguments)
 {
+    check_arguments(count == 1, count, arguments, page);
     static const size_t widths[] = {3, 4, 6};
     column_sum amounts = {
         .table = {.allows_blanks = 1, .is_records = 1, .widths = widths, .width_count = 3},

@@ -1,11 +1,14 @@
 /* Adds up the integers of standard input, one a line, and says where a line is wrong. */
+#include "command.h"
 #include <jadvolni.h>
-#include <err.h>
-#include <stdio.h>
-#include <stdlib.h>
 
-int main(void)
+static const char page[] = "usage: sum < FILE\n"
+    "Adds up integers, one a line."
+    " Exit status 1: a wrong line, or too large a sum; 2: reading or writing failed.\n";
+
+int main(int count, char **arguments)
 {
+    check_arguments(count == 1, count, arguments, page);
     char *line = NULL;
     size_t room = 0, number = 0;
     int64_t sum = 0, value;

@@ -39,7 +39,8 @@ def summary(path: str, name: str) -> str:
 
 def main() -> None:
     """The command line."""
-    command.ask(len(sys.argv) == 3, __doc__)
+    # (an empty name would be a database that SQLite drops at the end)
+    command.ask(len(sys.argv) == 3 and sys.argv[2] != "", __doc__)
     command.tell(sys.argv[1], lambda path: summary(path, sys.argv[2]))
 
 

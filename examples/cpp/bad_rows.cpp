@@ -27,4 +27,8 @@ static column_sum sum_of(const char *name)
     return {sum, bad_rows};
 }
 
-int main(int count, char **arguments) { return print_sum("bad_rows", count, arguments, sum_of); }
+constexpr char page[] = "usage: bad_rows NAME < FILE\n"
+    "Adds up the column of that name, without bad rows."
+    " Exit status 1: a bad row, or too large a sum; 2: reading or writing failed.\n";
+
+int main(int count, char **arguments) { return print_sum(page, count, arguments, sum_of); }

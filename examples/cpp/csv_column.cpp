@@ -1,8 +1,7 @@
 // Adds up a column of comma-separated values, in as many threads as there are cores: csv_column COLUMN < FILE
 // Columns count from 1. The first line is one of numbers too, without quotes, and each has as many cells as it.
+#include "../c/command.h"
 #include "table_threads.hpp"
-#include <err.h>
-#include <cstdio>
 #include <string>
 #include <thread>
 
@@ -48,13 +47,14 @@ static std::int64_t sum_of(const std::vector<block> &blocks)
     return sum;
 }
 
+constexpr char page[] = "usage: csv_column COLUMN < FILE\n"
+    "Adds up that column, counted from 1."
+    " Exit status 1: a wrong row, or too large a sum; 2: reading or writing failed.\n";
+
 int main(int count, char **arguments)
 try {
     auto column = jadvolni::parse<std::size_t>(count == 2 ? arguments[1] : "");
-    if (!column || *column == 0) {
-        std::fputs("usage: csv_column COLUMN < FILE\n", stderr);
-        return 2;
-    }
+    check_arguments(column && *column > 0, count, arguments, page);
     auto text = whole_input();
     auto cells = static_cast<std::size_t>(std::count(text.begin(), std::find(text.begin(), text.end(), '\n'), ',')) + 1;
     // Where the first line has no such cell, it has one too few.

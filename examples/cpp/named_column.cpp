@@ -15,4 +15,8 @@ static column_sum sum_of(const char *name)
     return {sum, 0};
 }
 
-int main(int count, char **arguments) { return print_sum("named_column", count, arguments, sum_of); }
+constexpr char page[] = "usage: named_column NAME < FILE\n"
+    "Adds up the column of that name."
+    " Exit status 1: a wrong row, or too large a sum; 2: reading or writing failed.\n";
+
+int main(int count, char **arguments) { return print_sum(page, count, arguments, sum_of); }

@@ -1,9 +1,8 @@
 // What the programs share that add up a column of comma-separated values by its name: their input, and their answer.
 #pragma once
+#include "../c/command.h"
 #include <jadvolni_columns.hpp>
-#include <err.h>
 #include <unistd.h>
-#include <cstdio>
 
 inline ssize_t read_input(char *to, std::size_t room)
 {
@@ -45,12 +44,9 @@ struct column_sum {
 };
 
 // Prints the sum of the column that the command line of a program names. The status is 1 if rows were skipped.
-inline int print_sum(const char *program, int count, char **arguments, column_sum (*sum_of)(const char *name))
+inline int print_sum(const char *page, int count, char **arguments, column_sum (*sum_of)(const char *name))
 try {
-    if (count != 2) {
-        std::fprintf(stderr, "usage: %s NAME < FILE\n", program);
-        return 2;
-    }
+    check_arguments(count == 2, count, arguments, page);
     auto [sum, bad_rows] = sum_of(arguments[1]);
     if (std::printf("%lld\n", static_cast<long long>(sum)) < 0 || std::fflush(stdout) != 0) err(2, "standard output");
     return bad_rows > 0;

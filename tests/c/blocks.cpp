@@ -35,12 +35,12 @@ static std::string read(std::string_view text, std::size_t step, std::size_t siz
     int numbers[4] = {};
     jadvolni::table_column columns[] = {{}, jadvolni::column_into(numbers)};
     jadvolni::table_blocks blocks(source{text, step, &calls, false}, bytes, how, 4, columns);
-    std::string told;
+    std::string shown;
     for (const jadvolni::table_block &block : blocks) {
-        for (std::size_t row = 0; row < block.rows(); ++row) told += std::to_string(numbers[row]) + ' ';
-        if (!block) told += std::string(block.message()) + " at " + std::to_string(block.place());
+        for (std::size_t row = 0; row < block.rows(); ++row) shown += std::to_string(numbers[row]) + ' ';
+        if (!block) shown += std::string(block.message()) + " at " + std::to_string(block.place());
     }
-    return told;
+    return shown;
 }
 
 // Rows of megabytes, byte by byte: what looked at a byte for each one that follows would need hours.
@@ -110,8 +110,8 @@ static void open_quotes()
     auto is_open = [](std::string_view text, std::size_t size, std::size_t place) {
         auto wanted = "a row has no room: a quote isn't closed at " + std::to_string(place);
         for (std::size_t step : {1u, 7u, 99u}) {
-            auto told = read(text, step, size, commas(true));
-            CHECK(told == wanted || told == "1 " + wanted);
+            auto shown = read(text, step, size, commas(true));
+            CHECK(shown == wanted || shown == "1 " + wanted);
         }
     };
     is_open("\"abcdefghijklmnop\n", 12, 0);
@@ -129,9 +129,9 @@ static void refused_columns()
 {
     auto says = [](const std::vector<jadvolni::table_column> &given, std::size_t rows, std::size_t column, const char *wanted) {
         auto columns = given;
-        auto told = jadvolni::parse_table("1,2\n", commas(false), rows, columns);
-        CHECK(told.status() == status::invalid_table && told.column() == column && !told.rows());
-        CHECK(std::strstr(told.message(), wanted));
+        auto answer = jadvolni::parse_table("1,2\n", commas(false), rows, columns);
+        CHECK(answer.status() == status::invalid_table && answer.column() == column && !answer.rows());
+        CHECK(std::strstr(answer.message(), wanted));
         std::size_t calls = 0;
         char bytes[9];
         jadvolni::table_blocks blocks(source{"1,2\n", 9, &calls, false}, bytes, commas(false), rows, columns);
@@ -166,8 +166,8 @@ static void refused_columns()
     CHECK(jadvolni::parse_table("1,2,3\n", commas(false), 4, beside).rows() == 1 && numbers[0] == 2 && others[0] == 3);
     jadvolni::table_column without_format[] = {column, {}};
     without_format[0].format = {};
-    auto told = jadvolni::parse_table("1,2\n", commas(false), 4, without_format);
-    CHECK(told.status() == status::invalid_mantissa_radix && std::strstr(told.message(), "an array and no format"));
+    auto answer = jadvolni::parse_table("1,2\n", commas(false), 4, without_format);
+    CHECK(answer.status() == status::invalid_mantissa_radix && std::strstr(answer.message(), "an array and no format"));
 }
 
 static void headers()
@@ -179,13 +179,13 @@ static void headers()
         jadvolni::table_blocks blocks(source{text, step, &calls, false}, bytes, how, 4);
         auto first = blocks.header();
         if (!first) return first.message() + (' ' + std::to_string(first.place()));
-        std::string told(*first);
+        std::string shown(*first);
         jadvolni::table_column columns[] = {{}, jadvolni::column_into(numbers)};
         blocks.read_into(columns);
         for (const jadvolni::table_block &block : blocks)
-            told += '|' + std::string(block.message()) + ' ' + std::to_string(block.first_row()) + ' '
+            shown += '|' + std::string(block.message()) + ' ' + std::to_string(block.first_row()) + ' '
                 + std::to_string(numbers[0]) + ' ' + std::to_string(block.place());
-        return told;
+        return shown;
     };
     auto skips = commas(true), either = commas(false);
     skips.skips_empty_rows = skips.has_returns = 1;

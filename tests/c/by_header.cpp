@@ -16,11 +16,11 @@ using jadvolni::columns_by_header, jadvolni::status;
 static std::string header(std::string_view text, const jadvolni::table &how)
 {
     columns_by_header columns(text, how, std::vector<jadvolni::named_column>());
-    std::string told;
-    for (const auto &name : columns.names()) told += name + '|';
+    std::string shown;
+    for (const auto &name : columns.names()) shown += name + '|';
     CHECK(!columns || columns.size() == columns.names().size());
     CHECK(columns || columns.size() == 0);
-    return told + columns.message() + ' ' + std::to_string(columns.place());
+    return shown + columns.message() + ' ' + std::to_string(columns.place());
 }
 
 static void names()
@@ -77,21 +77,21 @@ static void what_is_no_header()
 
 static void wrong_names()
 {
-    auto told = [](std::string_view text, std::initializer_list<jadvolni::named_column> wanted) {
+    auto fault = [](std::string_view text, std::initializer_list<jadvolni::named_column> wanted) {
         return columns_by_header(text, commas(), wanted).message();
     };
-    CHECK(told("id,cents,id\n", {{"cents", {}}}).empty() && told("id,cents\n", {}).empty());
-    CHECK(told("id,cents,id\n", {{"id", {}}}) == "more than one column \"id\": the header has \"id\", \"cents\", \"id\"");
-    CHECK(told("id,cents,id\n", {{"cent", {}}}) == "no column \"cent\": the header has \"id\", \"cents\", \"id\"");
-    CHECK(told("id,cents,id\n", {{"cents", {}}, {"cents", {}}}) == "the column \"cents\" is asked for twice");
-    CHECK(told("id\n", {{"", {}}}) == "no column \"\": the header has \"id\"");
+    CHECK(fault("id,cents,id\n", {{"cents", {}}}).empty() && fault("id,cents\n", {}).empty());
+    CHECK(fault("id,cents,id\n", {{"id", {}}}) == "more than one column \"id\": the header has \"id\", \"cents\", \"id\"");
+    CHECK(fault("id,cents,id\n", {{"cent", {}}}) == "no column \"cent\": the header has \"id\", \"cents\", \"id\"");
+    CHECK(fault("id,cents,id\n", {{"cents", {}}, {"cents", {}}}) == "the column \"cents\" is asked for twice");
+    CHECK(fault("id\n", {{"", {}}}) == "no column \"\": the header has \"id\"");
     std::string many, long_name(99, 'x'), accents = "x";
     for (int index = 0; index < 1000; ++index) many += std::to_string(index) + ',';
-    auto message = told(many, {{long_name, {}}});
+    auto message = fault(many, {{long_name, {}}});
     CHECK(message.find("no column \"" + long_name.substr(0, 40) + "\" ..: the header has \"0\", \"1\"") == 0);
     CHECK(message.find(", \"39\" and 961 more") != message.npos);
     for (int index = 0; index < 40; ++index) accents += "\xC3\xA9";
-    CHECK(told("id\n", {{accents, {}}}).find("no column \"" + accents.substr(0, 41) + "\" ..:") == 0);
+    CHECK(fault("id\n", {{accents, {}}}).find("no column \"" + accents.substr(0, 41) + "\" ..:") == 0);
 }
 
 static void rows()

@@ -1,4 +1,4 @@
-/* Checks that are counted, and told where they fail; and texts without a byte more. */
+/* Counts checks, and prints those that fail; and makes texts with no byte after their last. */
 #include <stdio.h>
 #include <stdlib.h>
 #include <string.h>

@@ -1,5 +1,5 @@
 /* Reads each text of the table in docs/ARCHITECTURE.md, as tools/check_formats.py asks: each call stands in a function of
- * its own, by which callgrind tells them apart. */
+ * its own, so that callgrind counts them apart. */
 #include "jadvolni.h"
 
 #define ROW(name, call)                              \

@@ -187,7 +187,7 @@ static void parts(void)
     CHECK(answers(read_part(text, 12, true, commas, 3), JADVOLNI_OK, 0, 1, 2, 12));
 }
 
-/* What is wrong with a table or a column is told before the text, and nothing is written. */
+/* A fault of the table or of a column comes before those of the text, and nothing is written. */
 static void faults_of_tables(void)
 {
     uint32_t numbers[2] = {77, 77};

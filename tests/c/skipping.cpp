@@ -55,7 +55,7 @@ static jadvolni::table with_flags(unsigned flags)
 }
 
 // The numbers of the first of two columns, the bad rows, what is said of them, and what ends it.
-struct told {
+struct outcome {
     std::vector<int> rows;
     std::vector<bad_row> bad;
     std::vector<std::string> faults;
@@ -70,13 +70,13 @@ static bool operator==(const bad_row &one, const bad_row &other)
         && one.place == other.place && one.start == other.start;
 }
 
-static told of_whole(std::string_view text, const jadvolni::table &how)
+static outcome of_whole(std::string_view text, const jadvolni::table &how)
 {
     int numbers[64];
     std::array<bad_row, 64> bad{};
     jadvolni::table_column columns[] = {jadvolni::column_into(numbers), {}};
     auto read = jadvolni::parse_table_skipping(text, how, 64, columns, bad);
-    told all{{numbers, numbers + read.rows()}, {bad.data(), bad.data() + read.bad_rows()}, {}, read.bad_rows(), ""};
+    outcome all{{numbers, numbers + read.rows()}, {bad.data(), bad.data() + read.bad_rows()}, {}, read.bad_rows(), ""};
     for (const auto &row : all.bad) all.faults.push_back(jadvolni::table_fault(row, text, how).what());
     return all;
 }
@@ -95,7 +95,7 @@ struct source {
     }
 };
 
-static told in_blocks(source read, std::size_t size, const jadvolni::table &how, std::size_t capacity, std::size_t room)
+static outcome in_blocks(source read, std::size_t size, const jadvolni::table &how, std::size_t capacity, std::size_t room)
 {
     std::vector<char> bytes(size);
     std::vector<int> numbers(capacity);
@@ -103,7 +103,7 @@ static told in_blocks(source read, std::size_t size, const jadvolni::table &how,
     jadvolni::table_column columns[] = {jadvolni::column_into(numbers), {}};
     jadvolni::table_blocks blocks(read, bytes, how, capacity, columns);
     blocks.skip_bad_rows(bad);
-    told all;
+    outcome all;
     for (bool has_failed = true; has_failed;) {
         has_failed = false;
         for (const jadvolni::table_block &block : blocks) {

@@ -84,7 +84,7 @@ static void wrong_amounts(void)
         {"a;1,00EUR", 0, JADVOLNI_INVALID_DIGIT, 6},
         {"a;1,0\"0", 0, JADVOLNI_MISPLACED_QUOTE, 5},
         {"a;92.233.720.368.547.758,08", 0, JADVOLNI_OVERFLOW, 26},
-        /* By the zeros that aren't written, which is told where reading stops. */
+        /* The zeros that aren't written lead out of the type; the place is where reading stops. */
         {"a;-922.337.203.685.477.581", 1, JADVOLNI_UNDERFLOW, 26},
     };
     size_t k;
@@ -115,7 +115,7 @@ static void fewer_places(void)
     CHECK(cents[0] == 0 && cents[1] == -1 && cents[2] == 0 && cents[3] == 77 && bits == 0xF2);
 }
 
-/* What is wrong with a description is told before all text, behind what is wrong with the room, in one order. */
+/* A fault of the room comes first, then one of a description, then one of the text. */
 static void descriptions(void)
 {
     int64_t cents[2] = {77, 77};

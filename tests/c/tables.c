@@ -80,7 +80,7 @@ static void line_ends(void)
     EXPECT("1;;2\n", either, JADVOLNI_MISSING_RETURN, 3, 0, 4, 1, 2, 77, 99);
 }
 
-/* What is wrong with a table or a column is told before the text, and nothing is written. */
+/* A fault of the table or of a column comes before those of the text, and nothing is written. */
 static void faults_of_tables(void)
 {
     uint32_t first[2] = {77, 77}, second[2] = {77, 77};
@@ -101,7 +101,7 @@ static void faults_of_tables(void)
     columns[0].format.digit_separator = '-';
     CHECK(answers(jadvolni_parse_table("x,2", 3, true, &table, 1, columns, 2), JADVOLNI_INVALID_DIGIT_SEPARATOR, 0, 0, 0));
     CHECK(first[0] == 77 && second[0] == 77);
-    /* Widths are as many as columns or none, and records have some: the table is told before its columns. */
+    /* There are as many widths as columns, or none, and records have some. The table's fault comes before those of columns. */
     static const size_t widths[3] = {1, 1, 1};
     for (unsigned flag = 0; flag < 256; flag += 255) {
         for (size_t count = 0; count <= 3; count++) {

@@ -64,7 +64,7 @@ struct reader {
 static std::string in_table_blocks(reader read, std::size_t size, std::size_t capacity, int loops = 1,
                                    const jadvolni::table &how = ledger_of_lines())
 {
-    std::string told, bytes(size, 'x');
+    std::string shown, bytes(size, 'x');
     std::vector<short> days(capacity, 77);
     std::vector<long> cents(capacity, 77);
     jadvolni::table_column columns[] = {jadvolni::column_into(days), {}, jadvolni::column_into(cents)};
@@ -74,12 +74,12 @@ static std::string in_table_blocks(reader read, std::size_t size, std::size_t ca
         for (const jadvolni::table_block &block : blocks) {
             CHECK(block.first_row() == rows && block.rows() <= capacity && (!block || block.rows() > 0));
             for (std::size_t k = 0; k < block.rows(); ++k, ++rows)
-                told += std::to_string(days[k]) + ' ' + std::to_string(cents[k]) + '\n';
+                shown += std::to_string(days[k]) + ' ' + std::to_string(cents[k]) + '\n';
             if (!block)
-                told += block.message() + (' ' + std::to_string(block.first_row() + block.rows())) + ' '
+                shown += block.message() + (' ' + std::to_string(block.first_row() + block.rows())) + ' '
                     + std::to_string(block.column()) + ' ' + std::to_string(block.place()) + '\n';
         }
-    return told;
+    return shown;
 }
 
 static void tables_in_blocks()
@@ -109,9 +109,9 @@ static void tables_in_blocks()
     CHECK(beyond.begin()->message() == std::string_view("reading has failed"));
     // Where reading fails nothing is lost, and no row comes twice.
     for (std::size_t fails_at = 0; fails_at <= rows.size(); ++fails_at) {
-        auto told = in_table_blocks({rows, 1, fails_at}, 20, 9, 2);
-        auto from = told.find("reading has failed");
-        CHECK(from != told.npos && told.erase(from, told.find('\n', from) + 1 - from) == all);
+        auto shown = in_table_blocks({rows, 1, fails_at}, 20, 9, 2);
+        auto from = shown.find("reading has failed");
+        CHECK(from != shown.npos && shown.erase(from, shown.find('\n', from) + 1 - from) == all);
     }
     // A step is one wherever its sign stands.
     jadvolni::table_blocks rest(reader{"1;2;3\n4;5;6\n", 99, never}, bytes, ledger_of_lines(), 1, unread);
@@ -130,9 +130,9 @@ static void bits()
     columns[0].present = {present.data(), present.size()};
     CHECK(jadvolni::parse_table("-1\n\n3\n\n\n6\n7\n8\n", lines, 9, columns).rows() == 8);
     CHECK(numbers[0] == -1 && numbers[1] == 0 && numbers[4] == 0 && numbers[7] == 8 && numbers[8] == 77);
-    std::string told;
-    for (std::size_t row = 0; row < 16; ++row) told += jadvolni::is_present(present, row) ? '1' : '0';
-    CHECK(told == "1010011111111111");
+    std::string shown;
+    for (std::size_t row = 0; row < 16; ++row) shown += jadvolni::is_present(present, row) ? '1' : '0';
+    CHECK(shown == "1010011111111111");
     const std::uint8_t two[] = {0x80, 0x01};
     CHECK(jadvolni::is_present(two, 7) && jadvolni::is_present(two, 8));
     CHECK(!jadvolni::is_present(two, 6) && !jadvolni::is_present(two, 15));

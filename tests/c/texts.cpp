@@ -44,8 +44,8 @@ static bool is(const cell_text &text, std::size_t start, std::size_t size, bool 
 static std::string folded_in(std::string_view text, const cell_text &cell, std::size_t room)
 {
     std::string bytes(room, '.');
-    auto told = jadvolni::fold_into(text, cell, bytes);
-    return told ? std::string(*told) : "no room " + bytes;
+    auto folded = jadvolni::fold_into(text, cell, bytes);
+    return folded ? std::string(*folded) : "no room " + bytes;
 }
 
 static void beside_numbers()
@@ -158,8 +158,8 @@ static void room()
     // What is written twice is refused.
     auto overlaps = [&](const jadvolni::table_column &one, const jadvolni::table_column &other) {
         jadvolni::table_column both[] = {one, other};
-        auto told = jadvolni::parse_table("a;1", bank(), 2, both);
-        return told.status() == status::invalid_table && told.column() == 1 && std::strstr(told.message(), "overlaps");
+        auto answer = jadvolni::parse_table("a;1", bank(), 2, both);
+        return answer.status() == status::invalid_table && answer.column() == 1 && std::strstr(answer.message(), "overlaps");
     };
     auto of_texts = column_into(texts), other = column_into(texts.data() + 1, 1), with_bits = column_into(cents);
     CHECK(overlaps(of_texts, of_texts));
@@ -265,14 +265,14 @@ static std::string in_blocks(std::string_view text, std::size_t size, std::size_
                                         {{"cents", column_into(cents, amount())}, {"what", column_into(texts)}});
     blocks.read_into(columns);
     blocks.skip_bad_rows(bad);
-    std::string told;
+    std::string shown;
     for (const jadvolni::table_block &block : blocks) {
         for (std::size_t row = 0; row < block.rows(); ++row)
-            told += jadvolni::folded(block.bytes(), texts[row]) + ' ' + std::to_string(cents[row]) + '|';
-        if (block.bad_rows()) told += block.fault(bad[0]).what() + std::string("|");
-        if (!block) told += block.message();
+            shown += jadvolni::folded(block.bytes(), texts[row]) + ' ' + std::to_string(cents[row]) + '|';
+        if (block.bad_rows()) shown += block.fault(bad[0]).what() + std::string("|");
+        if (!block) shown += block.message();
     }
-    return told;
+    return shown;
 }
 
 static void blocks()

@@ -24,35 +24,35 @@ static block rows_of(std::string_view text, const jadvolni::table &how)
     return {std::move(left), std::move(present), std::move(right), answer};
 }
 
-// All that is read: the numbers of each row, up to the first wrong cell, and that.
-static std::string told(const std::vector<block> &blocks, const jadvolni::table_result &whole)
+// The numbers of each row, up to the first wrong cell, and the answer of the whole table.
+static std::string shown(const std::vector<block> &blocks, const jadvolni::table_result &whole)
 {
-    std::string told;
+    std::string text;
     for (const block &one : blocks) {
         for (std::size_t row = 0; row < one.left.size() && row <= one.answer.rows(); ++row)
             if (row < one.answer.rows() || !one.answer)
-                told += std::to_string(one.left[row]) + "?!"[jadvolni::is_present(one.present, row)]
+                text += std::to_string(one.left[row]) + "?!"[jadvolni::is_present(one.present, row)]
                     + std::to_string(one.right[row]) + ' ';
         if (!one.answer) break;
     }
-    return told + whole.name() + ' ' + std::to_string(whole.column()) + ' ' + std::to_string(whole.rows()) + ' '
+    return text + whole.name() + ' ' + std::to_string(whole.column()) + ' ' + std::to_string(whole.rows()) + ' '
         + std::to_string(whole.place());
 }
 
 static std::string in_one_thread(std::string_view text, const jadvolni::table &how)
 {
     std::vector<block> blocks{rows_of(text, how)};
-    return told(blocks, blocks[0].answer);
+    return shown(blocks, blocks[0].answer);
 }
 
-static std::string in_so_many(std::size_t threads, std::string_view text, const jadvolni::table &how)
+static std::string in_several(std::size_t threads, std::string_view text, const jadvolni::table &how)
 {
     auto parts = table_parts(text, how, threads);
     std::size_t size = 0;
     for (auto part : parts) size += part.size();
     CHECK(size == text.size() && parts.size() <= std::max<std::size_t>(threads, 1));
     auto blocks = in_threads(parts, [&how](std::string_view part) { return rows_of(part, how); });
-    return told(blocks, table_answer(parts, blocks));
+    return shown(blocks, table_answer(parts, blocks));
 }
 
 static void worked_tables()
@@ -60,10 +60,10 @@ static void worked_tables()
     auto how = commas(true);
     std::string_view right = "1,\"a\n,\",2\n,\"\"\"\n\",3\n-4,b,\"5\"\n", wrong = "1,\"\n\",2\n3,c\"d,4\nx,,5\n6,\",7\n";
     for (std::size_t threads = 0; threads <= right.size() + 2; ++threads) {
-        CHECK(in_so_many(threads, right, how) == "1!2 0?3 -4!5 Ok 0 3 28");
-        CHECK(in_so_many(threads, wrong, how) == "1!2 3!99 MisplacedQuote 1 1 11");
-        CHECK(in_so_many(threads, "", how) == "Ok 0 0 0");
-        CHECK(in_so_many(threads, "\n\n\n", how) == "0?99 TooFewCells 1 0 0");
+        CHECK(in_several(threads, right, how) == "1!2 0?3 -4!5 Ok 0 3 28");
+        CHECK(in_several(threads, wrong, how) == "1!2 3!99 MisplacedQuote 1 1 11");
+        CHECK(in_several(threads, "", how) == "Ok 0 0 0");
+        CHECK(in_several(threads, "\n\n\n", how) == "0?99 TooFewCells 1 0 0");
     }
     // Where quotes have no meaning they keep no text in one part.
     std::string quoted;
@@ -74,7 +74,7 @@ static void worked_tables()
     CHECK(table_parts("1,\",2\n", how, 4).size() == 1 && table_parts(std::string_view(), how, 4).size() == 1);
     // What is wrong with a table comes before its text.
     how.reserved[0] = 1;
-    for (std::size_t threads : {1u, 3u, 64u}) CHECK(in_so_many(threads, right, how) == "77?99 InvalidTable 0 0 0");
+    for (std::size_t threads : {1u, 3u, 64u}) CHECK(in_several(threads, right, how) == "77?99 InvalidTable 0 0 0");
 }
 
 // A text of rows, of which some are wrong in some way or other, for a table that is written somehow.
@@ -119,7 +119,7 @@ static void random_tables()
         std::string_view exact(bytes, text.size());
         auto wanted = in_one_thread(exact, how);
         right += wanted.find("Ok") != wanted.npos;
-        for (std::size_t threads : {2ul, 5ul, random() % 64 + 1}) CHECK(in_so_many(threads, exact, how) == wanted);
+        for (std::size_t threads : {2ul, 5ul, random() % 64 + 1}) CHECK(in_several(threads, exact, how) == wanted);
         free(bytes);
     }
     // There are enough right ones, and enough wrong ones.

@@ -2,7 +2,7 @@
 import assert from "node:assert/strict";
 import { test } from "node:test";
 import { Format, formats, parse, parseFront, parseTable } from "../../bindings/js/index.js";
-import { told } from "./answers.js";
+import { outcomeOf } from "./answers.js";
 
 const EURO = { places: 2, point: ",", group: "." };
 const CENTS = { places: 2, takes_fewer: true };
@@ -36,7 +36,7 @@ test("each type has amounts, up to its ends", () => {
       assert.equal(BigInt(parse(write(end), type, { places: 1 })), end);
       assert.deepEqual(parseFront(`${write(end)} EUR`, type, { places: 1 }),
         { value: bits > 32n ? end : Number(end), stop: `${end}`.length + 1 });
-      const beyond = told(() => parse(write(end + (end < 0n ? -1n : 1n)), type, { places: 1 }));
+      const beyond = outcomeOf(() => parse(write(end + (end < 0n ? -1n : 1n)), type, { places: 1 }));
       assert.equal(beyond, `${end < 0n ? "Underflow" : "Overflow"}(${`${end}`.length})`);
     }
   }
@@ -58,7 +58,7 @@ test("faults of whole texts", () => {
     ["-1.5", { places: 1 }, "u8", "InvalidDigit(0)"],
   ];
   for (const [text, options, type, wanted] of wrong) {
-    assert.equal(told(() => parse(text, type, options)), wanted, text);
+    assert.equal(outcomeOf(() => parse(text, type, options)), wanted, text);
   }
 });
 
@@ -66,8 +66,8 @@ test("fronts", () => {
   assert.deepEqual(parseFront("12.50 EUR", "i64", CENTS), { value: 1250n, stop: 5 });
   assert.deepEqual(parseFront("12. And", "u16", CENTS), { value: 1200, stop: 2 });
   assert.deepEqual(parseFront("-1.234,50 EUR", "i32", EURO), { value: -123450, stop: 9 });
-  assert.equal(told(() => parseFront("12.505", "u16", CENTS)), "InvalidDigit(5)");
-  assert.equal(told(() => parseFront("EUR 12", "u16", CENTS)), "Empty(0)");
+  assert.equal(outcomeOf(() => parseFront("12.505", "u16", CENTS)), "InvalidDigit(5)");
+  assert.equal(outcomeOf(() => parseFront("EUR 12", "u16", CENTS)), "Empty(0)");
 });
 
 test("bounds are in units of the last place", () => {
@@ -75,7 +75,7 @@ test("bounds are in units of the last place", () => {
   assert.equal(parse("1.5", "u8", bounds), 150);
   assert.throws(() => parse("0.99", "u8", bounds), { kind: "OutOfBounds", message: "0.99 is not from 1.00 to 2.00" });
   assert.throws(() => parse("99.00", "u8", bounds), { kind: "OutOfBounds", message: "99.00 is not from 1.00 to 2.00" });
-  assert.equal(told(() => parse("1.5x", "u8", bounds)), "InvalidDigit(3)");
+  assert.equal(outcomeOf(() => parse("1.5x", "u8", bounds)), "InvalidDigit(3)");
   const small = (places) => ({ places, point: ",", takes_fewer: true, max: 5 });
   assert.throws(() => parse("0,200", "i8", small(3)), { message: "0,200 is not from -0,128 to 0,005", min: -128n, max: 5 });
   assert.throws(() => parse("-13", "i8", small(1)), { message: "-13 is not from -12,8 to 0,5" });

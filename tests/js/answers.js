@@ -1,7 +1,7 @@
 // What calls answer, in one word: a value, or the name of a fault and its place.
 import { FormatError, ParseError } from "../../bindings/js/index.js";
 
-export function told(call) {
+export function outcomeOf(call) {
   try {
     return call();
   } catch (error) {

@@ -155,7 +155,7 @@ test("errors have one class above them", () => {
   assert.ok(JadvolniError.prototype instanceof Error);
 });
 
-test("an engine without 64-bit memory is told which have it", async ({ mock }) => {
+test("an engine without 64-bit memory: the message says which have it", async ({ mock }) => {
   const lacking = { name: "JadvolniError", message: /Chromium has it from 133 on/ };
   mock.method(WebAssembly, "validate", () => false);
   await assert.rejects(import("../../bindings/js/memory.js?without"), lacking);

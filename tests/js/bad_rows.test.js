@@ -18,7 +18,7 @@ test("right rows stand one behind another, and bad ones are counted", () => {
   assert.throws(() => parseTable(TEXT, TWO, { onError: "throw" }), { row: 1 });
 });
 
-test("bad rows are told to an array, or a function", () => {
+test("bad rows go to an array, or to a function", () => {
   const wanted = [
     ["InvalidDigit", 1, 0, 4, 4, 8, 'line 2, column 1: "x": invalid digit at byte 0 of the cell'],
     ["TooFewCells", 3, 1, 13, 12, 14, "line 4: too few cells, none for column 2"],
@@ -31,8 +31,8 @@ test("bad rows are told to an array, or a function", () => {
   }
   for (const found of [list, called]) {
     assert.ok(found.every((error) => error instanceof ParseError));
-    const told = found.map((it) => [it.kind, it.row, it.column, it.place, it.rowStart, it.rowStop, it.message]);
-    assert.deepEqual(told, wanted);
+    const shown = found.map((it) => [it.kind, it.row, it.column, it.place, it.rowStart, it.rowStop, it.message]);
+    assert.deepEqual(shown, wanted);
   }
 });
 
@@ -116,15 +116,15 @@ test("random texts beside their rows, each read alone", () => {
     const errors = [];
     const { columns, badRows } = parseTable(text, ["u8", "i16"], { ...table, onError, errors });
     assert.deepEqual(columns.map((it) => Array.from(it)), wanted.columns, JSON.stringify({ text, table }));
-    const told = errors.map((it) => [it.row, it.kind, it.place, it.rowStart, it.rowStop, it.message]);
-    assert.deepEqual(told, wanted.bad, JSON.stringify({ text, table }));
+    const shown = errors.map((it) => [it.row, it.kind, it.place, it.rowStart, it.rowStop, it.message]);
+    assert.deepEqual(shown, wanted.bad, JSON.stringify({ text, table }));
     assert.equal(badRows, errors.length);
     [right, bad] = [right + columns[0].length, bad + badRows];
   }
   assert.ok(right > 1000 && bad > 1000);
 });
 
-test("more bad rows than are told at once, and rows longer than those are read in", () => {
+test("more bad rows than fit at once, and rows longer than a piece", () => {
   const count = 200_000;
   const errors = [];
   let next = 0;
@@ -161,7 +161,7 @@ test("a row that is too long is no bad row", () => {
   for (const errors of [undefined, []]) assert.throws(() => parseTable(text, ["u8"], { onError, errors }), wanted);
 });
 
-test("who is told may read others, and end the reading", () => {
+test("a function that gets bad rows may read other tables, and stop the reading", () => {
   const seen = [];
   const errors = (error) => {
     seen.push(error.row);
@@ -181,7 +181,7 @@ test("who is told may read others, and end the reading", () => {
   assert.throws(() => parseTable(TEXT, TWO, { onError, errors: Object.freeze([]) }), TypeError);
 });
 
-test("bytes that are taken away meanwhile are told", () => {
+test("bytes that are taken away meanwhile are a TypeError", () => {
   const bytes = new TextEncoder().encode("x\n".repeat(100_000));
   const errors = () => bytes.buffer.byteLength > 0 && structuredClone(bytes.buffer, { transfer: [bytes.buffer] });
   const lost = { name: "TypeError", message: /^text has lost its bytes/ };

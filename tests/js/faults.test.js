@@ -17,8 +17,8 @@ function errorOf(text, columns, table) {
   throw new Error("nothing was thrown");
 }
 
-/** Asks that the error of a table has these, also where bad rows are told, and says this. */
-function tells(text, columns, table, wanted, message) {
+/** Checks these properties of a table's error, also of the error of a bad row, and its message. */
+function checkFault(text, columns, table, wanted, message) {
   const errors = [];
   parseTable(text, columns, { ...table, onError: "skip", errors });
   for (const error of [errorOf(text, columns, table), errors[0]]) {
@@ -29,11 +29,11 @@ function tells(text, columns, table, wanted, message) {
 }
 
 test("a cell", () => {
-  tells(BANK, { amount: "i16" }, { header: true }, {
+  checkFault(BANK, { amount: "i16" }, { header: true }, {
     name: "ParseError", kind: "InvalidDigit", row: 3, line: 4, column: 1, columnName: "amount", place: 30,
     rowStart: 26, rowStop: 33, text: "12x5", field: undefined, min: undefined, max: undefined,
   }, 'line 5, "amount": "12x5": invalid digit at byte 2 of the cell');
-  tells("1,2\n3,x\n", TWO, {}, { row: 1, column: 1, columnName: undefined },
+  checkFault("1,2\n3,x\n", TWO, {}, { row: 1, column: 1, columnName: undefined },
     'line 2, column 2: "x": invalid digit at byte 0 of the cell');
 });
 
@@ -41,7 +41,7 @@ test("lines as an editor counts", () => {
   const text = '\ufeffid,"no\nte",n\r\n\r\n1,"a\nb\nc",2\r\n\r\n2,"d\n",x\r\n3,,4\r\n';
   const table = { header: true, has_returns: true, has_quotes: true, skips_empty_rows: true };
   const bytes = Buffer.from(text);
-  tells(text, { n: "u8", id: "u8" }, table, {
+  checkFault(text, { n: "u8", id: "u8" }, table, {
     row: 1, line: 8, column: 2, columnName: "n", text: "x", place: bytes.indexOf("x"),
     rowStart: bytes.indexOf('2,"d'), rowStop: bytes.indexOf("3,,4"),
   }, 'line 9, "n": "x": invalid digit at byte 0 of the cell');
@@ -56,19 +56,19 @@ test("lines behind a piece of the memory", () => {
 });
 
 test("a row stops before the empty ones that are skipped", () => {
-  tells("\n\n1\nx\n\n\n\n2\n", ["u8"], { skips_empty_rows: true },
+  checkFault("\n\n1\nx\n\n\n\n2\n", ["u8"], { skips_empty_rows: true },
     { row: 1, line: 3, place: 4, rowStart: 4, rowStop: 6 });
-  tells("1\nx", ["u8"], {}, { rowStart: 2, rowStop: 3 });
+  checkFault("1\nx", ["u8"], {}, { rowStart: 2, rowStop: 3 });
 });
 
 test("records", () => {
   const table = { widths: [2, 1], is_records: true };
-  tells("011022x33", ["u8", "u8"], table, {
+  checkFault("011022x33", ["u8", "u8"], table, {
     row: 2, line: 0, column: 0, place: 6, rowStart: 6, rowStop: 9, text: "x3",
   }, 'row 3, column 1: "x3": invalid digit at byte 0 of the cell');
-  tells("0110\n2", ["u8", "u8"], table, { row: 1, line: 0, column: 0, place: 4, text: "0\n" },
+  checkFault("0110\n2", ["u8", "u8"], table, { row: 1, line: 0, column: 0, place: 4, text: "0\n" },
     'row 2, column 1: "0\\n": invalid digit at byte 1 of the cell');
-  tells("011\n\n", [null, "u8"], table, { row: 1, line: 2, column: 1, place: 5, text: "" },
+  checkFault("011\n\n", [null, "u8"], table, { row: 1, line: 2, column: 1, place: 5, text: "" },
     "row 2: too few cells, none for column 2");
 });
 
@@ -81,7 +81,7 @@ test("widths", () => {
     ["01002xyz\n", 0, 2, 5, "xyz", 'line 1, column 3: "xyz": too many cells'],
   ];
   for (const [text, row, column, place, cell, message] of wrong) {
-    tells(text, ["u8", "u8"], table, { row, column, place, text: cell }, message);
+    checkFault(text, ["u8", "u8"], table, { row, column, place, text: cell }, message);
   }
 });
 
@@ -100,10 +100,10 @@ test("what is wrong with rows", () => {
     ["1,2\n,4", {}, 0, "", 'line 2, column 1: "": missing digit at byte 0 of the cell'],
   ];
   for (const [text, table, column, cell, message] of wrong) {
-    tells(text, TWO, table, { row: 1, line: 1, column, columnName: undefined, text: cell }, message);
+    checkFault(text, TWO, table, { row: 1, line: 1, column, columnName: undefined, text: cell }, message);
   }
   const few = 'line 2: too few cells, none for "b\\"\\u{200b}"';
-  tells('"a","b""\u200b"\n1\n', ["u8", "u8"], { header: true, has_quotes: true }, { columnName: 'b"\u200b' }, few);
+  checkFault('"a","b""\u200b"\n1\n', ["u8", "u8"], { header: true, has_quotes: true }, { columnName: 'b"\u200b' }, few);
 });
 
 test("what a message shows of a cell", () => {
@@ -132,14 +132,14 @@ test("what a message shows of a cell", () => {
 });
 
 test("a column that isn't read, and one that may miss numbers", () => {
-  tells('a,b,c\n1,"x"y,2\n', { c: "u8" }, { header: true, has_quotes: true }, { column: 1, columnName: "b" });
-  tells("NA\n \nx\n", [{ type: "u8", may_miss: true }], { missing: "NA" }, { row: 1, text: " " });
+  checkFault('a,b,c\n1,"x"y,2\n', { c: "u8" }, { header: true, has_quotes: true }, { column: 1, columnName: "b" });
+  checkFault("NA\n \nx\n", [{ type: "u8", may_miss: true }], { missing: "NA" }, { row: 1, text: " " });
 });
 
 test("a fault behind a piece of the memory counts from the text's start", () => {
   const times = Math.ceil((1.5 * LONGEST_ROW) / 8);
   const text = `${"1,2\n3,4\n".repeat(times)}5,6x\n7,8\n`;
-  tells(text, TWO, {}, {
+  checkFault(text, TWO, {}, {
     row: 2 * times, line: 2 * times, place: 8 * times + 3, rowStart: 8 * times, rowStop: 8 * times + 5, text: "6x",
   }, `line ${2 * times + 1}, column 2: "6x": invalid digit at byte 1 of the cell`);
 });

@@ -51,26 +51,26 @@ test("what is no header", () => {
 });
 
 test("names that are missing or stand twice", () => {
-  const told = (text, columns) => {
+  const answerOf = (text, columns) => {
     try {
       return Object.keys(parseTable(text, columns, { header: true }));
     } catch (error) {
       return `${error.name}: ${error.message}`;
     }
   };
-  assert.deepEqual(told("id,cents,id\n", { cents: null }), ["cents"]);
-  assert.deepEqual(told("id,cents,id\n", {}), []);
-  assert.equal(told("id,cents,id\n", { id: "u8" }),
+  assert.deepEqual(answerOf("id,cents,id\n", { cents: null }), ["cents"]);
+  assert.deepEqual(answerOf("id,cents,id\n", {}), []);
+  assert.equal(answerOf("id,cents,id\n", { id: "u8" }),
     'HeaderError: more than one column "id": the header has "id", "cents", "id"');
-  assert.equal(told("id,cents,id\n", { cent: "u8" }),
+  assert.equal(answerOf("id,cents,id\n", { cent: "u8" }),
     'HeaderError: no column "cent": the header has "id", "cents", "id"');
-  assert.equal(told("id,constructor\n", { toString: "u8" }),
+  assert.equal(answerOf("id,constructor\n", { toString: "u8" }),
     'HeaderError: no column "toString": the header has "id", "constructor"');
-  assert.equal(told("id;cents\n", { cents: "u8" }),
+  assert.equal(answerOf("id;cents\n", { cents: "u8" }),
     'HeaderError: no column "cents": the header has "id;cents"; separator may have to be ";"');
-  assert.equal(told("id cents\n", { cents: "u8" }), 'HeaderError: no column "cents": the header has "id cents"');
+  assert.equal(answerOf("id cents\n", { cents: "u8" }), 'HeaderError: no column "cents": the header has "id cents"');
   const many = Array.from({ length: 1000 }, (_, index) => index).join();
-  assert.match(told(many, { x: "u8" }), /^HeaderError: no column "x": the header has "0", .*, "39" and 960 more$/);
+  assert.match(answerOf(many, { x: "u8" }), /^HeaderError: no column "x": the header has "0", .*, "39" and 960 more$/);
 });
 
 test("headers that are hostile", () => {
@@ -124,18 +124,18 @@ test("a fault has its column's name", () => {
   assert.throws(() => parseTable(",1\n,x\n", [null, "u8"]), { columnName: undefined });
 });
 
-test("a row that is too long tells an open quote", () => {
+test("the message on a row that is too long names its open quote", () => {
   const long = "\n".repeat(LONGEST_ROW + 1);
-  const told = (text) => {
+  const answerOf = (text) => {
     try {
       return parseTable(text, [null, "u8"], { has_quotes: true });
     } catch (error) {
       return `${error.name}: ${error.message}`;
     }
   };
-  assert.equal(told(`a,1\n"b",1\n"",2\n"""${long}`),
+  assert.equal(answerOf(`a,1\n"b",1\n"",2\n"""${long}`),
     `RangeError: the row at byte 15 has more than ${LONGEST_ROW} bytes, and its quote at byte 15 isn't closed in them`);
-  assert.equal(told(`"a"${"b".repeat(LONGEST_ROW)}\n`), `RangeError: the row at byte 0 has more than ${LONGEST_ROW} bytes`);
+  assert.equal(answerOf(`"a"${"b".repeat(LONGEST_ROW)}\n`), `RangeError: the row at byte 0 has more than ${LONGEST_ROW} bytes`);
 });
 
 test("wrong arguments", () => {

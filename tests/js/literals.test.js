@@ -2,7 +2,7 @@
 import assert from "node:assert/strict";
 import { test } from "node:test";
 import { Format, formats, LONGEST, parse, parseLiteral, parseTypedLiteral } from "../../bindings/js/index.js";
-import { told } from "./answers.js";
+import { outcomeOf } from "./answers.js";
 
 const TYPES = ["u8", "u16", "u32", "u64", "u128", "usize", "i8", "i16", "i32", "i64", "i128", "isize"];
 const SUFFIXES = Object.freeze({ "": "i32", ...Object.fromEntries(TYPES.map((type) => [type, type])) });
@@ -19,7 +19,7 @@ const ofRust = (text) => parseTypedLiteral(text, SUFFIXES, formats.RUST);
 test("literals have their suffixes", () => {
   assert.deepEqual(parseLiteral("0xFFull;", formats.C), { value: 255n, suffix: "ull", stop: 7 });
   assert.deepEqual(parseLiteral("12 px"), { value: 12n, suffix: "", stop: 2 });
-  assert.equal(told(() => parseLiteral("px")), "Empty(0)");
+  assert.equal(outcomeOf(() => parseLiteral("px")), "Empty(0)");
 });
 
 test("a suffix names the type", () => {
@@ -32,15 +32,15 @@ test("a suffix names the type", () => {
   const own = JSON.parse('{ "__proto__": "u16", "constructor": "u8" }');
   assert.equal(parseTypedLiteral("1__proto__", own).type, "u16");
   assert.equal(parseTypedLiteral("1constructor", own).type, "u8");
-  assert.equal(told(() => parseTypedLiteral("1toString", {})), "UnknownSuffix(1)");
+  assert.equal(outcomeOf(() => parseTypedLiteral("1toString", {})), "UnknownSuffix(1)");
 });
 
 test("the ends of each type, and one beyond", () => {
   for (const type of TYPES) {
     const most = mostOf(type);
     assert.deepEqual(ofRust(`${most}${type}`).value, parse(`${most}`, type));
-    assert.equal(told(() => ofRust(`${most + 1n}${type}`)), `Overflow(${`${most}`.length - 1})`);
-    assert.equal(told(() => ofRust(`-1${type}`)), "Empty(0)");
+    assert.equal(outcomeOf(() => ofRust(`${most + 1n}${type}`)), `Overflow(${`${most}`.length - 1})`);
+    assert.equal(outcomeOf(() => ofRust(`-1${type}`)), "Empty(0)");
   }
 });
 
@@ -50,17 +50,17 @@ test("a fault is at the digit or the suffix that is wrong", () => {
     ["128i8", "Overflow(2)"], ["", "Empty(0)"], ["u8", "Empty(0)"], ["0x", "Empty(2)"], ["1u", "UnknownSuffix(1)"],
     ["1u88", "UnknownSuffix(1)"], ["1\0u8", 1], ["1\u00e9", 1],
   ]) {
-    const found = told(() => ofRust(text).value);
+    const found = outcomeOf(() => ofRust(text).value);
     assert.equal(found, wanted, text);
   }
   assert.throws(() => ofRust("12abc"), { name: "ParseError", message: "unknown suffix at byte 2", kind: "UnknownSuffix" });
-  assert.equal(told(() => parseTypedLiteral("1", {})), "UnknownSuffix(1)");
-  assert.equal(told(() => parseTypedLiteral("12", { "": "u8" }, new Format({ mantissa_radix: 2 }))), "InvalidDigit(1)");
+  assert.equal(outcomeOf(() => parseTypedLiteral("1", {})), "UnknownSuffix(1)");
+  assert.equal(outcomeOf(() => parseTypedLiteral("12", { "": "u8" }, new Format({ mantissa_radix: 2 }))), "InvalidDigit(1)");
 });
 
 test("an object that changes between calls is read anew", () => {
   const changing = { u: "u8" };
-  const typeOf = (text, table = changing) => told(() => parseTypedLiteral(text, table).type);
+  const typeOf = (text, table = changing) => outcomeOf(() => parseTypedLiteral(text, table).type);
   assert.equal(typeOf("1u"), "u8");
   changing.u = "u16";
   assert.equal(typeOf("1u"), "u16");
@@ -84,7 +84,7 @@ test("each number with each suffix, before any byte", () => {
     const suffix = ["", ...TYPES, "u", "x_1"][time % 15];
     const text = `${number}${suffix}${behind[time % 8]}`;
     const [type, size] = [SUFFIXES[suffix], `${number}`.length];
-    const found = told(() => BigInt(parseTypedLiteral(text, SUFFIXES).value));
+    const found = outcomeOf(() => BigInt(parseTypedLiteral(text, SUFFIXES).value));
     if (type === undefined) assert.equal(found, `UnknownSuffix(${size})`, text);
     else if (number <= mostOf(type)) assert.equal(found, number, text);
     else assert.match(found, /^Overflow\(\d+\)$/, text);

@@ -11,7 +11,7 @@ import { formats, parse } from "../../bindings/js/index.js";
 import { folder, loadWith, MODULE, PACKAGE, replacing } from "./copies.js";
 
 
-test("a module that is missing, damaged or another is told", async () => {
+test("a message says that a module is missing, damaged or another", async () => {
   const other = Buffer.from("0061736d01000000", "hex"); // it exports nothing
   const renamed = Buffer.from(MODULE);
   renamed.write("jadvolni_parse_none", renamed.indexOf("jadvolni_parse_u128_front"));
@@ -28,7 +28,7 @@ test("a module that is missing, damaged or another is told", async () => {
   }
 });
 
-test("an engine without 64-bit memories is told what it lacks", () => {
+test("an engine without 64-bit memories: the message says what it lacks", () => {
   const loading = `await import(${JSON.stringify(new URL("../../bindings/js/index.js", import.meta.url).href)});`;
   const lacking = [`WebAssembly.validate = () => false; ${loading}`];
   if (parseInt(process.versions.node) < 24) lacking.push(loading); // (which is not given the flag here)
@@ -74,7 +74,7 @@ test("a package that was packed needs nothing beside it", { skip }, () => {
   assert.equal(stdout, "1250\n", stderr);
 });
 
-test("a module whose tables have another layout is told", async () => {
+test("a message says that a module's tables have another layout", async () => {
   const layout = [
     ["WORDS = 26", "WORDS = 28"], ["FIRST_ARRAY = 6", "FIRST_ARRAY = 4"], ["BITS = 24", "BITS = 22"],
     ['"i64", "u64"', '"u64", "i64"'], ['"u32", "i16"', '"i16", "u32"'], ['"i8", "u8"', '"u8", "i8"'],

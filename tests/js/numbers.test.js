@@ -13,7 +13,7 @@ import {
   parseFront,
   parsePartial,
 } from "../../bindings/js/index.js";
-import { told } from "./answers.js";
+import { outcomeOf } from "./answers.js";
 
 const SIZES = { 8: 8, 16: 16, 32: 32, 64: 64, 128: 128, size: 64 };
 const TYPES = Object.entries(SIZES).flatMap(([name, bits]) => [
@@ -39,9 +39,9 @@ test("the ends of each type, and one beyond", () => {
     assert.strictEqual(parse(`${most}`, type), as(bits, most));
     assert.strictEqual(parse(`${least}`, type), as(bits, least));
     const last = `${most}`.length - 1;
-    assert.equal(told(() => parse(`${most + 1n}`, type)), `Overflow(${last})`);
+    assert.equal(outcomeOf(() => parse(`${most + 1n}`, type)), `Overflow(${last})`);
     const below = least < 0n ? `Underflow(${last + 1})` : "InvalidDigit(0)";
-    assert.equal(told(() => parse(`${least - 1n}`, type)), below);
+    assert.equal(outcomeOf(() => parse(`${least - 1n}`, type)), below);
   }
 });
 
@@ -95,11 +95,11 @@ test("1,000,000 random texts are read as BigInt reads them", () => {
 test("fronts stop where their numbers end", () => {
   assert.deepEqual(parseFront("12px", "u16"), { value: 12, stop: 2 });
   assert.deepEqual(parsePartial("x", "i64"), { value: 0n, stop: 0 });
-  assert.equal(told(() => parseFront("x", "i64")), "Empty(0)");
-  assert.equal(told(() => parseFront("+a", "i64")), "Empty(1)");
-  assert.equal(told(() => parseFront("-x", "i64")), "Empty(1)");
-  assert.equal(told(() => parseFront("[- 5]", "i64", formats.JSON)), "Empty(0)");
-  assert.equal(told(() => parseFront("0xg", "u64", formats.RUST)), "Empty(2)");
+  assert.equal(outcomeOf(() => parseFront("x", "i64")), "Empty(0)");
+  assert.equal(outcomeOf(() => parseFront("+a", "i64")), "Empty(1)");
+  assert.equal(outcomeOf(() => parseFront("-x", "i64")), "Empty(1)");
+  assert.equal(outcomeOf(() => parseFront("[- 5]", "i64", formats.JSON)), "Empty(0)");
+  assert.equal(outcomeOf(() => parseFront("0xg", "u64", formats.RUST)), "Empty(2)");
   assert.deepEqual(parseFront("0x1F;", "u8", formats.RUST), { value: 31, stop: 4 });
 });
 
@@ -111,17 +111,17 @@ test("a fault says what is wrong, and at which byte of UTF-8", () => {
     place: 19,
     field: undefined,
   });
-  assert.equal(told(() => parse("1é", "u8")), "InvalidDigit(1)");
-  assert.equal(told(() => parse("1\u0131", "u8")), "InvalidDigit(1)"); // its low byte is a digit
-  assert.equal(told(() => parse("12\ud800", "u8")), "InvalidDigit(2)");
-  assert.equal(told(() => parse("", "u8")), "Empty(0)");
+  assert.equal(outcomeOf(() => parse("1é", "u8")), "InvalidDigit(1)");
+  assert.equal(outcomeOf(() => parse("1\u0131", "u8")), "InvalidDigit(1)"); // its low byte is a digit
+  assert.equal(outcomeOf(() => parse("12\ud800", "u8")), "InvalidDigit(2)");
+  assert.equal(outcomeOf(() => parse("", "u8")), "Empty(0)");
 });
 
 test("each single byte is a digit or a fault", () => {
   for (let byte = 0; byte < 256; byte++) {
     const isDigit = byte >= 48 && byte <= 57;
     const sign = byte === 43 ? "Empty(1)" : "InvalidDigit(0)";
-    const answer = told(() => parse(Uint8Array.of(byte), "u8"));
+    const answer = outcomeOf(() => parse(Uint8Array.of(byte), "u8"));
     assert.equal(answer, isDigit ? byte - 48 : sign);
   }
 });

@@ -1,4 +1,4 @@
-// Texts that go through memory in small pieces: the same is told of them as of one piece.
+// Texts that go through memory in small pieces are read as those of one piece.
 import assert from "node:assert/strict";
 import { test } from "node:test";
 import * as whole from "../../bindings/js/index.js";
@@ -35,8 +35,8 @@ function listsOf(column) {
   return [[...column], starts, [...column.sizes], [...column.hasDoubledQuotes]];
 }
 
-/** What is told of a text: its columns, and its bad rows; or its fault. A row that is too long for a piece has none. */
-function told(reading, { ParseError }) {
+/** What is read of a text: its columns and bad rows, or its fault; undefined if a row is too long for a piece. */
+function readingOf(reading, { ParseError }) {
   const ofError = (error) => ({ ...error, message: error.message });
   try {
     const found = reading();
@@ -55,11 +55,11 @@ test("random texts", () => {
     state = (Math.imul(state, 1664525) + 1013904223) >>> 0;
     return Math.floor((state / 2 ** 32) * below);
   };
-  const counts = { told: 0, long: 0 };
+  const counts = { read: 0, long: 0 };
   const compare = (read, text) => {
-    const found = told(() => read(inPieces), inPieces);
-    if (found) assert.deepEqual(found, told(() => read(whole), whole), JSON.stringify(text));
-    counts[found ? "told" : "long"]++;
+    const found = readingOf(() => read(inPieces), inPieces);
+    if (found) assert.deepEqual(found, readingOf(() => read(whole), whole), JSON.stringify(text));
+    counts[found ? "read" : "long"]++;
   };
   for (let time = 0; time < 3000; time++) {
     const text = Array.from({ length: draw(60) }, () => PARTS[draw(PARTS.length)]).join("");
@@ -75,5 +75,5 @@ test("random texts", () => {
     const lines = text.replaceAll(",", "\n");
     for (const options of LINES) compare(({ parseColumn }) => [parseColumn(lines, "i16", options)], lines);
   }
-  assert.ok(counts.told > 15_000 && counts.long > 100);
+  assert.ok(counts.read > 15_000 && counts.long > 100);
 });

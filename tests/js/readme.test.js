@@ -34,9 +34,9 @@ test("the examples of README", () => {
 });
 
 test("the module has about the size that README says", () => {
-  const [, ...told] = PAGE.match(/^.*The module has (\d+) kB, (\d+) kB by gzip/m);
+  const [, ...stated] = PAGE.match(/^.*The module has (\d+) kB, (\d+) kB by gzip/m);
   const sizes = [MODULE.length, gzipSync(MODULE, { level: 9 }).length];
   sizes.forEach((size, index) => {
-    assert.ok(Math.abs(size / 1000 / told[index] - 1) < 0.05, `${size} bytes, and not ${told[index]} kB`);
+    assert.ok(Math.abs(size / 1000 / stated[index] - 1) < 0.05, `${size} bytes, and not ${stated[index]} kB`);
   });
 });

@@ -68,7 +68,7 @@ export function rows() {
     if (!["complete", "partial", "format"].includes(columns[0])) continue;
     if (columns.at(-1) === "long") columns.pop();
     const [parser, format, ...asked] = columns;
-    const [, name, told = ""] = asked.pop().match(/^(\w+)(?:\((.*)\))?$/);
+    const [, name, numbers = ""] = asked.pop().match(/^(\w+)(?:\((.*)\))?$/);
     const isNamed = formats.has(format);
     found.push({
       at,
@@ -77,7 +77,7 @@ export function rows() {
       fields: isNamed ? formats.get(format) : fieldsOf(format),
       type: asked[0] ?? "",
       text: textOf(asked[1] ?? ""),
-      answer: { name, numbers: told ? told.split(", ").map(BigInt) : [] },
+      answer: { name, numbers: numbers ? numbers.split(", ").map(BigInt) : [] },
     });
   }
   return found;

@@ -130,7 +130,7 @@ test("each flag changes its own cells alone", () => {
   }
 });
 
-test("missing numbers of several pieces are told", () => {
+test("several pieces with missing numbers", () => {
   const column = { type: "u8", may_miss: true };
   const times = Math.ceil(LONGEST_ROW / 3);
   const [{ numbers, present }] = parseTable("1\n\n22\n".repeat(times), [column]);

@@ -82,7 +82,7 @@ test("texts of several pieces", () => {
   assert.equal(what.starts.at(-1), times * bytes.length - 13); // (of "499""é",243 and a line feed)
 });
 
-test("random cells are told as they were written", () => {
+test("random cells are returned as they were written", () => {
   const pieces = ["a", '"', ",", "\n", " ", "é", "\u{1f600}", "\r", ""];
   let state = 7;
   const draw = (below) => {
@@ -108,7 +108,7 @@ test("nothing is copied until a text is asked for", () => {
   assert.equal(what.at(0), "ab");
 });
 
-test("bytes that were taken away are told", () => {
+test("bytes that were taken away are a TypeError", () => {
   const message = "the text of the column has lost its bytes: its buffer was transferred or cut";
   const lost = { name: "TypeError", message };
   const memory = new WebAssembly.Memory({ initial: 1 });

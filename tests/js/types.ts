@@ -58,7 +58,7 @@ export const plain: [Uint8Array] = parseTable("1", ["u8"], written);
 export const row = ({ row, line, column, columnName, rowStart, rowStop, text, kind }: ParseError): string =>
   `${kind} ${row} ${line} ${column} ${columnName ?? ""} ${text ?? ""} ${(rowStop ?? 0) - (rowStart ?? 0)}`;
 export const read = <T extends NumberType>(text: string, type: T): NumberOf<T> => parse(text, type);
-export const told = (error: unknown) => error instanceof ParseError && `${error.kind} ${error.place}`;
+export const described = (error: unknown) => error instanceof ParseError && `${error.kind} ${error.place}`;
 
 // @ts-expect-error
 parse(12, "u8");
@@ -94,7 +94,7 @@ parseTable("1", [{ type: "text", places: 2 }]);
 parseTable("1", [{ type: "u8", encoding: "utf-8" }]);
 // @ts-expect-error
 parseTable("1", ["u8"], { onError: "raise" });
-// @ts-expect-error (they are told where rows are skipped)
+// @ts-expect-error (only skipping has them)
 parseTable("1", ["u8"], { errors: [] });
 // @ts-expect-error
 what.starts = new Float64Array();

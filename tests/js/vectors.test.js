@@ -2,14 +2,14 @@
 import assert from "node:assert/strict";
 import { test } from "node:test";
 import { FIELDS, Format, formats, parse, parsePartial } from "../../bindings/js/index.js";
-import { told } from "./answers.js";
+import { outcomeOf } from "./answers.js";
 import { rows } from "./rows.js";
 
 const ROWS = rows();
 
 /** What the calls answer to the question of a row. */
 function answerOf({ parser, language, fields, type }, text) {
-  return told(() => {
+  return outcomeOf(() => {
     const format = language ? formats[language.toUpperCase()] : new Format(fields);
     if (parser === "format") return "valid";
     if (parser === "complete") return `Ok(${parse(text, type, format)})`;

@@ -35,7 +35,7 @@ export async function serve(folder) {
 }
 
 /** What an exception in the page says. */
-function told({ exception, text }) {
+function messageOf({ exception, text }) {
   return exception?.description ?? text;
 }
 
@@ -64,7 +64,7 @@ export class Browser {
       `--user-data-dir=${browser.#folder}`, "about:blank",
     ], { stdio: ["ignore", "ignore", "ignore", "pipe", "pipe"] });
     browser.#process.once("exit", () => browser.#end());
-    browser.#process.stdio[3].on("error", () => {}); // (it has ended, which is told)
+    browser.#process.stdio[3].on("error", () => {}); // (the browser has ended; its exit is reported)
     browser.#process.stdio[4].setEncoding("utf8").on("data", (data) => browser.#read(data));
     const late = setTimeout(() => browser.#process.kill(), START).unref();
     const { targetInfos } = await browser.send("Target.getTargets");
@@ -112,7 +112,7 @@ export class Browser {
     "Page.loadEventFired": () => this.#loaded(),
     "Network.requestWillBeSent": ({ request }) => this.requests.push(request.url),
     "Network.loadingFailed": ({ errorText }) => this.errors.push(errorText),
-    "Runtime.exceptionThrown": ({ exceptionDetails }) => this.errors.push(told(exceptionDetails)),
+    "Runtime.exceptionThrown": ({ exceptionDetails }) => this.errors.push(messageOf(exceptionDetails)),
     "Runtime.consoleAPICalled": ({ args }) => this.errors.push(args.map((it) => it.value).join(" ")),
     "Log.entryAdded": ({ entry }) => entry.level === "error" && this.errors.push(entry.text),
   };
@@ -122,7 +122,7 @@ export class Browser {
     const { result, exceptionDetails } = await this.send("Runtime.evaluate", {
       expression, awaitPromise: true, returnByValue: true,
     });
-    if (exceptionDetails) throw new Error(told(exceptionDetails));
+    if (exceptionDetails) throw new Error(messageOf(exceptionDetails));
     return result.value;
   }
 

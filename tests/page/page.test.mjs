@@ -211,7 +211,7 @@ test("a fragment that means harm shows an answer, and runs nothing", async (cont
   context.diagnostic(`${HOSTILE.length + long.length} fragments`);
 });
 
-test("a text that is too long is told so, and the next one is read", async () => {
+test("the page says that a text is too long, and reads the next one", async () => {
   await browser.open(`${server.page}#text=7&type=u8`, READY);
   const typed = (text) => browser.value(`(() => {
     const input = document.getElementById("text");
@@ -359,14 +359,14 @@ async function answerAt(address) {
   return (await browser.value(`(${shown})()`)).answer;
 }
 
-test("an engine without 64-bit memory is told so", async () => {
+test("the page says that an engine lacks 64-bit memory", async () => {
   const source = "WebAssembly.validate = () => false";
   const { identifier } = await browser.send("Page.addScriptToEvaluateOnNewDocument", { source });
   assert.match(await answerAt(server.page), /no 64-bit WebAssembly memory/);
   await browser.send("Page.removeScriptToEvaluateOnNewDocument", { identifier });
 });
 
-test("a module that is missing or damaged is told", async () => {
+test("the page says that a module is missing or damaged", async () => {
   const folder = mkdtempSync(join(tmpdir(), "page-"));
   const page = await serve(folder);
   cpSync(join(PAGE, "index.html"), join(folder, "index.html"));

@@ -217,7 +217,7 @@ static void clear_texts(int column, size_t row)
     memset(texts + row, NUMBERS_BEFORE, (asked.room - row) * sizeof *texts);
 }
 
-/* The texts of a column from a row on, which the second part told, counted in the text. Where it told none, the one
+/* Counts the texts of a column from a row on in the whole text: the second part counts in itself. Where it read none, that
  * of the first part stands. A missing one, which has no bit, stays at 0. */
 static void move_texts(int column, size_t row, size_t by, const jadvolni_cell_text *before)
 {

@@ -33,7 +33,7 @@ sys.path.insert(0, os.path.join(TOP, "tools"))
 from c_calls import NUMBERS, CFormat, c_format  # noqa: E402
 from row_data import made, positive  # noqa: E402
 
-MOST_TOLD = 5
+MOST_SHOWN = 5
 # How many questions one run of the program answers.
 BATCH = 20000
 # What arrays and bits have before.
@@ -180,8 +180,8 @@ def differences(program: str, questions: Sequence[Question], wanted: Sequence[by
     """What differs."""
     if answers(program, questions) == b"".join(wanted):
         return []
-    told = filter(None, (difference(program, question) for question in questions))
-    return list(itertools.islice(told, MOST_TOLD)) or ["only together they differ"]
+    found = filter(None, (difference(program, question) for question in questions))
+    return list(itertools.islice(found, MOST_SHOWN)) or ["only together they differ"]
 
 
 def main() -> int:
@@ -199,17 +199,17 @@ def main() -> int:
     asked = (itertools.islice(short_questions(given.longest), 0, None, given.each) if given.all
              else itertools.islice(random_questions(random.Random(given.seed)), given.tables))
     count = well = 0
-    told: List[str] = []
+    found: List[str] = []
     with tempfile.TemporaryDirectory() as folder:
         program = compiled(folder)
-        while not told and (questions := list(itertools.islice(asked, BATCH))):
+        while not found and (questions := list(itertools.islice(asked, BATCH))):
             wanted = [expected(question) for question in questions]
-            told = differences(program, questions, wanted)
+            found = differences(program, questions, wanted)
             count += len(questions)
             well += sum(ANSWER.unpack_from(one)[1] == NUMBERS["Ok"] for one in wanted)
-    print("".join(f"compare: {line}\n" for line in told), end="")
-    print(f"compare: {count} tables, of which {well} are read without a fault: {len(told)} differ")
-    return 1 if told else 0
+    print("".join(f"compare: {line}\n" for line in found), end="")
+    print(f"compare: {count} tables, of which {well} are read without a fault: {len(found)} differ")
+    return 1 if found else 0
 
 
 if __name__ == "__main__":

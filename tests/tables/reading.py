@@ -332,7 +332,7 @@ def read_skipping(text: bytes, is_last: bool, dialect: Dialect,
                   targets: Sequence[Optional[Target]], room: int) -> Tuple[Skipped, Numbers]:
     """The right rows up to the limit, and the bad ones before the last of them.
 
-    Values are told by their places in the arrays. Those of a bad row stand where the next is put.
+    Values go by their places in the arrays. Those of a bad row are overwritten by the next row.
     """
     text = text if is_last else text[:whole_rows(text, dialect)]
     numbers: Numbers = {}

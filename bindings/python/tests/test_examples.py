@@ -448,6 +448,7 @@ class Inputs(Case):
             ("data.py",),
             ("accounts.py", "more"),
             ("to_sqlite.py",),
+            ("to_sqlite.py", ""),
             ("service.py", "more"),
             ("big_file.py", "0"),
             ("big_file.py", "²"),

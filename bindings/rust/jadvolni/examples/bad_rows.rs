@@ -8,6 +8,8 @@ use std::error::Error;
 use std::io::{self, Read, Write};
 use std::process::ExitCode;
 
+const PAGE: &str = "usage: bad_rows NAME < FILE
+Adds up the column of that name, without bad rows. Exit status 1: a bad row, or reading or writing failed.";
 /// At most this many bad rows are shown.
 const MOST: usize = 10;
 
@@ -45,11 +47,17 @@ pub fn run(
 
 fn main() -> ExitCode {
     let words: Vec<_> = std::env::args_os().skip(1).collect();
-    let [name] = &words[..] else {
-        eprintln!("usage: bad_rows NAME < FILE");
-        return ExitCode::from(2);
+    let answer = match &words[..] {
+        [word, ..] if word == "--help" => {
+            writeln!(io::stdout(), "{PAGE}").map(|()| 0).map_err(Into::into)
+        }
+        [name] => run(&name.to_string_lossy(), io::stdin(), io::stdout(), io::stderr()),
+        _ => {
+            eprintln!("{PAGE}");
+            return ExitCode::from(2);
+        }
     };
-    match run(&name.to_string_lossy(), io::stdin(), io::stdout(), io::stderr()) {
+    match answer {
         Ok(0) => ExitCode::SUCCESS,
         Ok(_) => ExitCode::FAILURE,
         Err(error) => {
