@@ -2,8 +2,12 @@
 
 from __future__ import annotations
 
+import io
+import os
+import stat
 import sys
-from typing import TYPE_CHECKING, Callable, Iterator, Optional, Protocol, Union
+from contextlib import suppress
+from typing import TYPE_CHECKING, Any, Callable, Iterator, Optional, Protocol, Union
 
 from ._core import _keep_memory, _parse_part
 from ._format import Format, _integer
@@ -15,6 +19,8 @@ if TYPE_CHECKING:
 
 # The largest memory that the allocator learns from.
 _LARGE = 31 << 20
+# So many bytes stay in a processor's cache from where they are read to where they are parsed.
+_PIECE = 1 << 18
 
 
 class File(Protocol):
@@ -55,16 +61,66 @@ def keep_memory(size: int) -> None:
     _keep_memory(min(size, _LARGE))
 
 
-def _blocks(
-    file: File, size: int, progress: Optional[Callable[[int], object]]
-) -> Iterator[bytes]:
-    """The blocks of a file, and after them an empty one."""
-    keep_memory(16 * size)
-    while block := _block(file, size):
-        yield block
-        if progress:
-            progress(len(block))
-    yield b""
+def _size_left(file: Any) -> int:
+    """How many bytes are left in a file, or 0 if that isn't known."""
+    with suppress(AttributeError, OSError, ValueError):
+        if type(file) is io.BytesIO:
+            place = file.tell()
+            size = file.seek(0, os.SEEK_END)
+            return max(size - file.seek(place), 0)
+        status = os.fstat(file.fileno())
+        if stat.S_ISREG(status.st_mode):
+            return max(status.st_size - int(file.tell()), 0)
+    return 0
+
+
+def _is_plain(file: Any) -> bool:
+    """Whether a file is one of Python's own, of which nobody sees by how many bytes it is read."""
+    return type(file) in (io.BufferedReader, io.BytesIO) and "read" not in vars(file)
+
+
+class Blocks:
+    """The blocks of a file, and after them an empty one. With `by_pieces`, a block of a plain file
+    comes as pieces, which are faster to read.
+
+    `behind` says of the last piece about how many bytes of its block follow, or 0 for none.
+    """
+
+    def __init__(
+        self,
+        file: File,
+        size: int,
+        progress: Optional[Callable[[int], object]] = None,
+        by_pieces: bool = False,
+    ) -> None:
+        self.file, self.size, self.progress = file, size, progress
+        self.piece = min(size, _PIECE) if by_pieces and _is_plain(file) else size
+        self.left = (_size_left(file) if self.piece < size else 0) or -1  # (-1: it isn't known)
+        self.behind = 0
+
+    def __iter__(self) -> Iterator[bytes]:
+        keep_memory(16 * self.size)
+        count, wanted = 0, self.piece
+        while piece := _block(self.file, wanted):
+            count, self.left = count + len(piece), self.left - len(piece)
+            self.behind = self._behind(count) if len(piece) == wanted else 0
+            yield piece
+            if not self.behind:
+                self._tell(count)
+                count = 0
+            wanted = min(self.piece, self.size - count)
+        self.behind = 0
+        self._tell(count)
+        yield b""
+
+    def _behind(self, count: int) -> int:
+        """How many bytes of a block follow its first `count`, going by the file's size."""
+        return min(self.size - count, self.left if self.left >= 0 else self.size)
+
+    def _tell(self, count: int) -> None:
+        """Tells of a block of `count` bytes, or of none."""
+        if self.progress and count:
+            self.progress(count)
 
 
 def iter_column(
@@ -86,7 +142,7 @@ def iter_column(
     parted = separator.encode() if isinstance(separator, str) else separator
     _parse_part(b"", type, parted, format, 0, 0)  # (this refuses wrong arguments)
     left, field, start = bytearray(), 0, 0
-    for block in _blocks(file, size, progress):
+    for block in Blocks(file, size, progress):
         stop = block.rfind(parted) + 1
         if block and not stop:
             left += block

@@ -4,6 +4,7 @@ from __future__ import annotations
 
 from typing import Iterable, Iterator, NamedTuple, Optional
 
+from ._blocks import Blocks
 from ._core import _row_ends
 from ._faults import Fault, Part
 from ._reader import Reader
@@ -11,13 +12,16 @@ from ._rows import Rows
 
 
 class Texts(NamedTuple):
-    """The whole rows that end in a block: the one that began before it, then the others.
+    """The whole rows that end in a block or a piece of one: the one that began before it, then the
+    others.
 
-    `block` is the size of the block in bytes. It is 0 for what follows the last block.
+    `block` is its size in bytes. It is 0 for what follows the last block. `behind` says about how
+    many bytes of the block follow, or 0 for none.
     """
 
     parts: list[tuple[bytes | memoryview, Part]]
-    block: int
+    block: int = 0
+    behind: int = 0
 
 
 class _Rest:
@@ -38,10 +42,10 @@ class _Rest:
         whole = (len(block) - first) // record
         return (first, first + whole * record) if whole >= 0 else (0, 0)
 
-    def add(self, block: bytes) -> Texts:
-        """The rows that end in a block."""
+    def add(self, block: bytes, behind: int) -> Texts:
+        """The rows that end in a block, or in a piece with about so many bytes behind it."""
         first, last = self.ends(block)
-        found = Texts([], len(block))
+        found = Texts([], len(block), behind)
         if last and self.bytes:
             self.bytes += block[:first]
             found.parts.append(self._part(bytes(self.bytes)))
@@ -61,7 +65,7 @@ class _Rest:
 
     def last(self) -> Texts:
         """What is left after the last block: a row without a line feed, or nothing."""
-        return Texts([(bytes(self.bytes), Part(self.start, self.line))], 0)
+        return Texts([(bytes(self.bytes), Part(self.start, self.line))])
 
     def ask_short(self) -> None:
         """Raises ValueError if the row is too long. It names the quote that may be the reason."""
@@ -76,35 +80,40 @@ class _Rest:
 
 
 def whole_rows(
-    blocks: Iterable[bytes], reader: Reader, size: int, before: Part
+    pieces: Iterable[bytes], blocks: Blocks, reader: Reader, size: int, before: Part
 ) -> Iterator[Texts]:
-    """The whole rows that end in each block of a file, and after the last block what is left.
+    """The whole rows that end in each piece of a file's blocks, and after the last what is left.
 
     `before` says what stands before them, such as a header. A row of more than `size` bytes is a
-    ValueError, so no more than two blocks are held.
+    ValueError where a block ends, so no more than two blocks are held.
     """
     rest = _Rest(reader, size, before)
-    for block in blocks:
-        if block:
-            yield rest.add(block)
+    for piece in pieces:
+        yield rest.add(piece, blocks.behind)
+        if not blocks.behind:
             rest.ask_short()
     yield rest.last()
 
 
 def read_texts(
-    reader: Reader, texts: Texts, most: int, row: int, kept: Optional[list[Fault]] = None
+    reader: Reader, blocks: Iterable[Texts], most: int, row: int, kept: Optional[list[Fault]] = None
 ) -> Iterator[Rows]:
-    """The rows of texts, at most `most` at once, after `row` others. The last may have a fault."""
+    """The rows of blocks, of one at a time and at most `most` at once, after `row` others. The last
+    may have a fault."""
     rows = Rows(reader, most, row, kept)
-    for text, part in texts.parts:
-        place = 0
-        while True:
-            place = rows.read(text, part, place)
-            if rows.fault or not rows.is_full():
-                break
+    for texts in blocks:
+        behind = sum(len(text) for text, _ in texts.parts) + texts.behind
+        for text, part in texts.parts:
+            place, behind = 0, behind - len(text)
+            while True:
+                place = rows.read(text, part, place, behind)
+                if rows.fault:
+                    yield rows
+                    return
+                if not rows.is_full():
+                    break
+                yield rows
+                rows = Rows(reader, most, rows.end, kept)
+        if not texts.behind and rows.end > rows.row:
             yield rows
             rows = Rows(reader, most, rows.end, kept)
-        if rows.fault:
-            break
-    if rows.end > rows.row or rows.fault:
-        yield rows
