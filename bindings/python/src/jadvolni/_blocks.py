@@ -19,8 +19,12 @@ if TYPE_CHECKING:
 
 # The largest memory that the allocator learns from.
 _LARGE = 31 << 20
-# So many bytes stay in a processor's cache from where they are read to where they are parsed.
+# A piece stays in a processor's cache from its reading to its parsing. In front of it there is room
+# for the row that began before.
 _PIECE = 1 << 18
+_FRONT = 1 << 12
+# A block of a file, or a piece of one.
+Block = Union[bytes, memoryview]
 
 
 class File(Protocol):
@@ -44,12 +48,17 @@ def _block(file: File, size: int) -> bytes:
         known = isinstance(file, (bytes, bytearray, memoryview))
         hint = ": parse_table and parse_column read what is in memory" if known else ""
         raise TypeError(f"file has to be one opened by \"rb\", and not {type(file).__name__}{hint}")
-    block = file.read(min(size, sys.maxsize))
+    block = _some(file.read(min(size, sys.maxsize)))
     if isinstance(block, bytes):
         return block
-    if block is None:
-        raise BlockingIOError("file has no bytes now: it has to be one whose read waits")
     raise TypeError(f"file has to give bytes, and not {type(block).__name__}: open it with \"rb\"")
+
+
+def _some(read: Any) -> Any:
+    """What a file has given, if it has given anything."""
+    if read is None:
+        raise BlockingIOError("file has no bytes now: it has to be one whose read waits")
+    return read
 
 
 def keep_memory(size: int) -> None:
@@ -74,16 +83,12 @@ def _size_left(file: Any) -> int:
     return 0
 
 
-def _is_plain(file: Any) -> bool:
-    """Whether a file is one of Python's own, of which nobody sees by how many bytes it is read."""
-    return type(file) in (io.BufferedReader, io.BytesIO) and "read" not in vars(file)
-
-
 class Blocks:
-    """The blocks of a file, and after them an empty one. With `by_pieces`, a block of a plain file
-    comes as pieces, which are faster to read.
+    """The blocks of a file, and after them an empty one.
 
-    `behind` says of the last piece about how many bytes of its block follow, or 0 for none.
+    With `by_pieces`, a block of one of Python's own files comes by pieces, each in the memory of
+    the one before. `behind` says of the last piece about how many bytes of its block follow, or 0
+    for none.
     """
 
     def __init__(
@@ -93,17 +98,22 @@ class Blocks:
         progress: Optional[Callable[[int], object]] = None,
         by_pieces: bool = False,
     ) -> None:
-        self.file, self.size, self.progress = file, size, progress
-        self.piece = min(size, _PIECE) if by_pieces and _is_plain(file) else size
-        self.left = (_size_left(file) if self.piece < size else 0) or -1  # (-1: it isn't known)
-        self.behind = 0
+        self.file: Any = file
+        self.size, self.progress, self.piece, self.behind = size, progress, size, 0
+        self.left = -1  # (how many bytes the file has left, or less than 0 if that isn't known)
+        self.room: Optional[memoryview] = None
+        if by_pieces and type(file) in (io.BufferedReader, io.BytesIO) and not vars(file):
+            self.left = _size_left(file) or -1
+            self.piece = min(size, _PIECE, self.left if self.left > 0 else size)
+            self.room = memoryview(bytearray(_FRONT + self.piece))
 
-    def __iter__(self) -> Iterator[bytes]:
+    def __iter__(self) -> Iterator[Block]:
         keep_memory(16 * self.size)
         count, wanted = 0, self.piece
-        while piece := _block(self.file, wanted):
+        while piece := self._piece(wanted):
             count, self.left = count + len(piece), self.left - len(piece)
-            self.behind = self._behind(count) if len(piece) == wanted else 0
+            behind = min(self.size - count, self.left if self.left >= 0 else self.size)
+            self.behind = behind if len(piece) == wanted else 0
             yield piece
             if not self.behind:
                 self._tell(count)
@@ -113,9 +123,21 @@ class Blocks:
         self._tell(count)
         yield b""
 
-    def _behind(self, count: int) -> int:
-        """How many bytes of a block follow its first `count`, going by the file's size."""
-        return min(self.size - count, self.left if self.left >= 0 else self.size)
+    def _piece(self, wanted: int) -> Block:
+        """The next piece of the file, or none at its end."""
+        if self.room is None:
+            return _block(self.file, wanted)
+        count = self.file.readinto(self.room[_FRONT:_FRONT + wanted])
+        return self.room[_FRONT:_FRONT + _some(count)]
+
+    def joined(self, rest: bytearray, piece: Block, stop: int) -> Optional[memoryview]:
+        """The rest of what was read before a piece, and the piece up to a place, or None if there
+        is no room for the rest in front of the piece."""
+        if self.room is None or isinstance(piece, bytes) or len(rest) > _FRONT:
+            return None
+        start = _FRONT - len(rest)
+        self.room[start:_FRONT] = rest
+        return self.room[start:_FRONT + stop]
 
     def _tell(self, count: int) -> None:
         """Tells of a block of `count` bytes, or of none."""
@@ -142,7 +164,7 @@ def iter_column(
     parted = separator.encode() if isinstance(separator, str) else separator
     _parse_part(b"", type, parted, format, 0, 0)  # (this refuses wrong arguments)
     left, field, start = bytearray(), 0, 0
-    for block in Blocks(file, size, progress):
+    for block in map(bytes, Blocks(file, size, progress)):
         stop = block.rfind(parted) + 1
         if block and not stop:
             left += block

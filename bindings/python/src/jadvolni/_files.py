@@ -4,7 +4,7 @@ from __future__ import annotations
 
 from typing import Iterable, Iterator, NamedTuple, Optional
 
-from ._blocks import Blocks
+from ._blocks import Block, Blocks
 from ._core import _row_ends
 from ._faults import Fault, Part
 from ._reader import Reader
@@ -19,7 +19,7 @@ class Texts(NamedTuple):
     many bytes of the block follow, or 0 for none.
     """
 
-    parts: list[tuple[bytes | memoryview, Part]]
+    parts: list[tuple[Block, Part]]
     block: int = 0
     behind: int = 0
 
@@ -27,12 +27,12 @@ class Texts(NamedTuple):
 class _Rest:
     """The unfinished row at the end of the blocks so far, and whether it ends within quotes."""
 
-    def __init__(self, reader: Reader, size: int, before: Part) -> None:
-        self.reader, self.size = reader, size
+    def __init__(self, blocks: Blocks, reader: Reader, size: int, before: Part) -> None:
+        self.blocks, self.reader, self.size = blocks, reader, size
         self.start, self.line = before.start, before.line
         self.bytes, self.is_within = bytearray(), False
 
-    def ends(self, block: bytes) -> tuple[int, int]:
+    def ends(self, block: Block) -> tuple[int, int]:
         """Where the first and the last row of a block end in it, both 0 if none does."""
         record = self.reader.record
         if not record:
@@ -42,22 +42,26 @@ class _Rest:
         whole = (len(block) - first) // record
         return (first, first + whole * record) if whole >= 0 else (0, 0)
 
-    def add(self, block: bytes, behind: int) -> Texts:
-        """The rows that end in a block, or in a piece with about so many bytes behind it."""
-        first, last = self.ends(block)
-        found = Texts([], len(block), behind)
-        if last and self.bytes:
-            self.bytes += block[:first]
+    def add(self, piece: Block) -> Texts:
+        """The rows that end in a piece of a block, or in all of it."""
+        first, last = self.ends(piece)
+        found = Texts([], len(piece), self.blocks.behind)
+        joined = self.blocks.joined(self.bytes, piece, last) if last and self.bytes else None
+        if joined:
+            found.parts.append(self._part(joined))
+            first, self.bytes = last, bytearray()
+        elif last and self.bytes:
+            self.bytes += piece[:first]
             found.parts.append(self._part(bytes(self.bytes)))
             self.bytes = bytearray()
         else:
             first = 0
         if first < last:
-            found.parts.append(self._part(memoryview(block)[first:last]))
-        self.bytes += memoryview(block)[last:]
+            found.parts.append(self._part(memoryview(piece)[first:last]))
+        self.bytes += memoryview(piece)[last:]
         return found
 
-    def _part(self, text: bytes | memoryview) -> tuple[bytes | memoryview, Part]:
+    def _part(self, text: Block) -> tuple[Block, Part]:
         """Whole rows, with how many bytes and lines stand before them."""
         part = Part(self.start, self.line)
         self.start, self.line = self.start + len(text), self.line + self.reader.lines_in(text)
@@ -80,16 +84,16 @@ class _Rest:
 
 
 def whole_rows(
-    pieces: Iterable[bytes], blocks: Blocks, reader: Reader, size: int, before: Part
+    pieces: Iterable[Block], blocks: Blocks, reader: Reader, size: int, before: Part
 ) -> Iterator[Texts]:
     """The whole rows that end in each piece of a file's blocks, and after the last what is left.
 
     `before` says what stands before them, such as a header. A row of more than `size` bytes is a
     ValueError where a block ends, so no more than two blocks are held.
     """
-    rest = _Rest(reader, size, before)
+    rest = _Rest(blocks, reader, size, before)
     for piece in pieces:
-        yield rest.add(piece, blocks.behind)
+        yield rest.add(piece)
         if not blocks.behind:
             rest.ask_short()
     yield rest.last()

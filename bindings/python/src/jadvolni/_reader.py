@@ -116,8 +116,8 @@ class Reader:
         # A row has at least this many bytes, unless it is the last: its cells and a line feed.
         self.least = self.record or (sum(sizes) + 1 if sizes else max(len(self.cells), 1))
         self.numpy = numpy_or_none()
-        # How many rows there were for each byte, as seen last, and at most how many at once: they say
-        # how much room a text needs.
+        # How many rows there were for each byte, as seen last, and at most how many at once: they
+        # say how much room a text needs.
         self.rate, self.seen = 0.0, 0
 
     def room(self, rows: int) -> Table:

@@ -9,7 +9,7 @@ from contextlib import nullcontext, suppress
 from typing import (TYPE_CHECKING, Any, BinaryIO, Callable, ContextManager, Iterable, Iterator,
                     Mapping, NamedTuple, Optional, Union)
 
-from ._blocks import Blocks, File, _block, _one_or_more, _size_left, keep_memory
+from ._blocks import Block, Blocks, File, _block, _one_or_more, _size_left, keep_memory
 from ._core import _row_count, _text_size
 from ._faults import AtFault, Errors, OnError, Part, at_fault, noting
 from ._files import Texts, read_texts, whole_rows
@@ -180,7 +180,7 @@ def parse_table(
     return _parse_text(text, asked)
 
 
-def _parts(text: memoryview) -> Iterator[bytes]:
+def _parts(text: memoryview) -> Iterator[Block]:
     """A text in parts that get larger, and after the last of them an empty one."""
     start, size = 0, 1 << 16
     while start < len(text):
