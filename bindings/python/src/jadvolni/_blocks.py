@@ -120,7 +120,9 @@ class Blocks:
                 count = 0
             wanted = min(self.piece, self.size - count)
         self.behind = 0
-        self._tell(count)
+        if count:
+            yield b""  # (the end of a block of which no more bytes come)
+            self._tell(count)
         yield b""
 
     def _piece(self, wanted: int) -> Block:
@@ -140,8 +142,8 @@ class Blocks:
         return self.room[start:_FRONT + stop]
 
     def _tell(self, count: int) -> None:
-        """Tells of a block of `count` bytes, or of none."""
-        if self.progress and count:
+        """Tells of a block of `count` bytes."""
+        if self.progress:
             self.progress(count)
 
 

@@ -92,7 +92,7 @@ def _behind_empty_rows(blocks: Iterator[Block], how: How) -> tuple[Iterator[Bloc
         start, lines, left = start + stop, lines + left.count(b"\n", 0, stop), left[stop:]
         if is_begun or not block:
             break
-    return chain([left], blocks if block or not left else [b""]), Part(start=start, line=lines)
+    return chain([left], blocks, [b""]), Part(start=start, line=lines)
 
 
 def read_header(
