@@ -104,8 +104,9 @@ class Blocks:
         self.room: Optional[memoryview] = None
         if by_pieces and type(file) in (io.BufferedReader, io.BytesIO) and not vars(file):
             self.left = _size_left(file) or -1
-            self.piece = min(size, _PIECE, self.left if self.left > 0 else size)
-            self.room = memoryview(bytearray(_FRONT + self.piece))
+            if not 0 < self.left <= _PIECE:  # (a file of one piece needs no room)
+                self.piece = min(size, _PIECE)
+                self.room = memoryview(bytearray(_FRONT + self.piece))
 
     def __iter__(self) -> Iterator[Block]:
         keep_memory(16 * self.size)

@@ -93,7 +93,7 @@ def whole_rows(
     """
     rest = _Rest(blocks, reader, size, before)
     for piece in pieces:
-        yield rest.add(piece)
+        yield rest.add(piece) if piece else Texts([])
         if not blocks.behind:
             rest.ask_short()
     yield rest.last()
