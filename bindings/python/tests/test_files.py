@@ -55,6 +55,23 @@ def outcome(call):
         return test_threads.fault_of(error)
 
 
+class Other(io.BytesIO):
+    """A file that is none of Python's own."""
+
+
+def events(file, skips, **given):
+    """The tables of a file, its progress and its errors, as they come."""
+    found = []
+    if skips:
+        given |= {"on_error": "skip", "errors": lambda error: found.append(str(error))}
+    try:
+        for table in iter_table(file, test_threads.COLUMNS, **given, progress=found.append):
+            found.append({name: values.tolist() for name, values in table.items()})
+    except ValueError as error:
+        found.append(str(error))
+    return found
+
+
 class Files(unittest.TestCase):
     """Files of any kind have the rows and the fault of their text."""
 
@@ -79,6 +96,27 @@ class Files(unittest.TestCase):
                         threads=threads)))
                     self.assertEqual(found, wanted, (text, given, threads, size))
         self.assertGreater(faults, 50)
+
+    def test_pieces_give_the_tables_of_blocks(self):
+        """One of Python's own files is read by pieces of a block, and any other by whole ones."""
+        chance = random.Random(3)
+        ends = set()
+        for turn in range(600):
+            given = {flag: chance.random() < 0.9 for flag in test_threads.FLAGS}
+            end = b"\r\n" if given["has_returns"] else b"\n"
+            text = test_threads.random_text(chance, end)
+            if turn % 3 == 0:
+                given["header"], text = True, b"a,b,c,d" + end + text
+            given["skips"] = chance.random() < 0.3
+            given["size"] = chance.choice((20, 30, 60, 100, 1000))
+            given["rows"] = chance.choice((1, 3, 99))
+            wanted = events(Other(text), **given)
+            few = {"_PIECE": chance.choice((1, 7, 30)), "_FRONT": chance.choice((0, 9, 99))}
+            with mock.patch.multiple("jadvolni._blocks", **few):
+                for file in io.BytesIO(text), io.BufferedReader(io.BytesIO(text)):
+                    self.assertEqual(events(file, **given), wanted, (text, given, few))
+            ends.add(type(wanted[-1]) if wanted else None)
+        self.assertEqual(ends, {int, dict, str, None})
 
     def test_rows_before_a_fault_come_first(self):
         text = b"1,x,2\n,y,3\n7,z,8\n"

@@ -2,8 +2,12 @@
 
 from __future__ import annotations
 
+import io
+import os
+import stat
 import sys
-from typing import TYPE_CHECKING, Callable, Iterator, Optional, Protocol, Union
+from contextlib import suppress
+from typing import TYPE_CHECKING, Any, Callable, Iterator, Optional, Protocol, Union
 
 from ._core import _keep_memory, _parse_part
 from ._format import Format, _integer
@@ -15,6 +19,12 @@ if TYPE_CHECKING:
 
 # The largest memory that the allocator learns from.
 _LARGE = 31 << 20
+# A piece stays in a processor's cache from its reading to its parsing. In front of it there is room
+# for the row that began before.
+_PIECE = 1 << 18
+_FRONT = 1 << 12
+# A block of a file, or a piece of one.
+Block = Union[bytes, memoryview]
 
 
 class File(Protocol):
@@ -38,12 +48,17 @@ def _block(file: File, size: int) -> bytes:
         known = isinstance(file, (bytes, bytearray, memoryview))
         hint = ": parse_table and parse_column read what is in memory" if known else ""
         raise TypeError(f"file has to be one opened by \"rb\", and not {type(file).__name__}{hint}")
-    block = file.read(min(size, sys.maxsize))
+    block = _some(file.read(min(size, sys.maxsize)))
     if isinstance(block, bytes):
         return block
-    if block is None:
-        raise BlockingIOError("file has no bytes now: it has to be one whose read waits")
     raise TypeError(f"file has to give bytes, and not {type(block).__name__}: open it with \"rb\"")
+
+
+def _some(read: Any) -> Any:
+    """What a file has given, if it has given anything."""
+    if read is None:
+        raise BlockingIOError("file has no bytes now: it has to be one whose read waits")
+    return read
 
 
 def keep_memory(size: int) -> None:
@@ -55,16 +70,82 @@ def keep_memory(size: int) -> None:
     _keep_memory(min(size, _LARGE))
 
 
-def _blocks(
-    file: File, size: int, progress: Optional[Callable[[int], object]]
-) -> Iterator[bytes]:
-    """The blocks of a file, and after them an empty one."""
-    keep_memory(16 * size)
-    while block := _block(file, size):
-        yield block
-        if progress:
-            progress(len(block))
-    yield b""
+def _size_left(file: Any) -> int:
+    """How many bytes are left in a file, or 0 if that isn't known."""
+    with suppress(AttributeError, OSError, ValueError):
+        if type(file) is io.BytesIO:
+            place = file.tell()
+            size = file.seek(0, os.SEEK_END)
+            return max(size - file.seek(place), 0)
+        status = os.fstat(file.fileno())
+        if stat.S_ISREG(status.st_mode):
+            return max(status.st_size - int(file.tell()), 0)
+    return 0
+
+
+class Blocks:
+    """The blocks of a file, and after them an empty one.
+
+    With `by_pieces`, a block of one of Python's own files comes by pieces, each in the memory of
+    the one before. `behind` says of the last piece about how many bytes of its block follow, or 0
+    for none.
+    """
+
+    def __init__(
+        self,
+        file: File,
+        size: int,
+        progress: Optional[Callable[[int], object]] = None,
+        by_pieces: bool = False,
+    ) -> None:
+        self.file: Any = file
+        self.size, self.progress, self.piece, self.behind = size, progress, size, 0
+        self.left = -1  # (how many bytes the file has left, or less than 0 if that isn't known)
+        self.room: Optional[memoryview] = None
+        if by_pieces and type(file) in (io.BufferedReader, io.BytesIO) and not vars(file):
+            self.left = _size_left(file) or -1
+            if not 0 < self.left <= _PIECE:  # (a file of one piece needs no room)
+                self.piece = min(size, _PIECE)
+                self.room = memoryview(bytearray(_FRONT + self.piece))
+
+    def __iter__(self) -> Iterator[Block]:
+        keep_memory(16 * self.size)
+        count, wanted = 0, self.piece
+        while piece := self._piece(wanted):
+            count, self.left = count + len(piece), self.left - len(piece)
+            behind = min(self.size - count, self.left if self.left >= 0 else self.size)
+            self.behind = behind if len(piece) == wanted else 0
+            yield piece
+            if not self.behind:
+                self._tell(count)
+                count = 0
+            wanted = min(self.piece, self.size - count)
+        self.behind = 0
+        if count:
+            yield b""  # (the end of a block of which no more bytes come)
+            self._tell(count)
+        yield b""
+
+    def _piece(self, wanted: int) -> Block:
+        """The next piece of the file, or none at its end."""
+        if self.room is None:
+            return _block(self.file, wanted)
+        count = self.file.readinto(self.room[_FRONT:_FRONT + wanted])
+        return self.room[_FRONT:_FRONT + _some(count)]
+
+    def joined(self, rest: bytearray, piece: Block, stop: int) -> Optional[memoryview]:
+        """The rest of what was read before a piece, and the piece up to a place, or None if there
+        is no room for the rest in front of the piece."""
+        if self.room is None or isinstance(piece, bytes) or len(rest) > _FRONT:
+            return None
+        start = _FRONT - len(rest)
+        self.room[start:_FRONT] = rest
+        return self.room[start:_FRONT + stop]
+
+    def _tell(self, count: int) -> None:
+        """Tells of a block of `count` bytes."""
+        if self.progress:
+            self.progress(count)
 
 
 def iter_column(
@@ -86,7 +167,7 @@ def iter_column(
     parted = separator.encode() if isinstance(separator, str) else separator
     _parse_part(b"", type, parted, format, 0, 0)  # (this refuses wrong arguments)
     left, field, start = bytearray(), 0, 0
-    for block in _blocks(file, size, progress):
+    for block in map(bytes, Blocks(file, size, progress)):
         stop = block.rfind(parted) + 1
         if block and not stop:
             left += block

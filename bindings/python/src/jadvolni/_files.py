@@ -4,6 +4,7 @@ from __future__ import annotations
 
 from typing import Iterable, Iterator, NamedTuple, Optional
 
+from ._blocks import Block, Blocks
 from ._core import _row_ends
 from ._faults import Fault, Part
 from ._reader import Reader
@@ -11,24 +12,27 @@ from ._rows import Rows
 
 
 class Texts(NamedTuple):
-    """The whole rows that end in a block: the one that began before it, then the others.
+    """The whole rows that end in a block or a piece of one: the one that began before it, then the
+    others.
 
-    `block` is the size of the block in bytes. It is 0 for what follows the last block.
+    `block` is its size in bytes. It is 0 for what follows the last block. `behind` says about how
+    many bytes of the block follow, or 0 for none.
     """
 
-    parts: list[tuple[bytes | memoryview, Part]]
-    block: int
+    parts: list[tuple[Block, Part]]
+    block: int = 0
+    behind: int = 0
 
 
 class _Rest:
     """The unfinished row at the end of the blocks so far, and whether it ends within quotes."""
 
-    def __init__(self, reader: Reader, size: int, before: Part) -> None:
-        self.reader, self.size = reader, size
+    def __init__(self, blocks: Blocks, reader: Reader, size: int, before: Part) -> None:
+        self.blocks, self.reader, self.size = blocks, reader, size
         self.start, self.line = before.start, before.line
         self.bytes, self.is_within = bytearray(), False
 
-    def ends(self, block: bytes) -> tuple[int, int]:
+    def ends(self, block: Block) -> tuple[int, int]:
         """Where the first and the last row of a block end in it, both 0 if none does."""
         record = self.reader.record
         if not record:
@@ -38,22 +42,26 @@ class _Rest:
         whole = (len(block) - first) // record
         return (first, first + whole * record) if whole >= 0 else (0, 0)
 
-    def add(self, block: bytes) -> Texts:
-        """The rows that end in a block."""
-        first, last = self.ends(block)
-        found = Texts([], len(block))
-        if last and self.bytes:
-            self.bytes += block[:first]
+    def add(self, piece: Block) -> Texts:
+        """The rows that end in a piece of a block, or in all of it."""
+        first, last = self.ends(piece)
+        found = Texts([], len(piece), self.blocks.behind)
+        joined = self.blocks.joined(self.bytes, piece, last) if last and self.bytes else None
+        if joined:
+            found.parts.append(self._part(joined))
+            first, self.bytes = last, bytearray()
+        elif last and self.bytes:
+            self.bytes += piece[:first]
             found.parts.append(self._part(bytes(self.bytes)))
             self.bytes = bytearray()
         else:
             first = 0
         if first < last:
-            found.parts.append(self._part(memoryview(block)[first:last]))
-        self.bytes += memoryview(block)[last:]
+            found.parts.append(self._part(memoryview(piece)[first:last]))
+        self.bytes += memoryview(piece)[last:]
         return found
 
-    def _part(self, text: bytes | memoryview) -> tuple[bytes | memoryview, Part]:
+    def _part(self, text: Block) -> tuple[Block, Part]:
         """Whole rows, with how many bytes and lines stand before them."""
         part = Part(self.start, self.line)
         self.start, self.line = self.start + len(text), self.line + self.reader.lines_in(text)
@@ -61,7 +69,7 @@ class _Rest:
 
     def last(self) -> Texts:
         """What is left after the last block: a row without a line feed, or nothing."""
-        return Texts([(bytes(self.bytes), Part(self.start, self.line))], 0)
+        return Texts([(bytes(self.bytes), Part(self.start, self.line))])
 
     def ask_short(self) -> None:
         """Raises ValueError if the row is too long. It names the quote that may be the reason."""
@@ -76,35 +84,40 @@ class _Rest:
 
 
 def whole_rows(
-    blocks: Iterable[bytes], reader: Reader, size: int, before: Part
+    pieces: Iterable[Block], blocks: Blocks, reader: Reader, size: int, before: Part
 ) -> Iterator[Texts]:
-    """The whole rows that end in each block of a file, and after the last block what is left.
+    """The whole rows that end in each piece of a file's blocks, and after the last what is left.
 
     `before` says what stands before them, such as a header. A row of more than `size` bytes is a
-    ValueError, so no more than two blocks are held.
+    ValueError where a block ends, so no more than two blocks are held.
     """
-    rest = _Rest(reader, size, before)
-    for block in blocks:
-        if block:
-            yield rest.add(block)
+    rest = _Rest(blocks, reader, size, before)
+    for piece in pieces:
+        yield rest.add(piece) if piece else Texts([])
+        if not blocks.behind:
             rest.ask_short()
     yield rest.last()
 
 
 def read_texts(
-    reader: Reader, texts: Texts, most: int, row: int, kept: Optional[list[Fault]] = None
+    reader: Reader, blocks: Iterable[Texts], most: int, row: int, kept: Optional[list[Fault]] = None
 ) -> Iterator[Rows]:
-    """The rows of texts, at most `most` at once, after `row` others. The last may have a fault."""
+    """The rows of blocks, of one at a time and at most `most` at once, after `row` others. The last
+    may have a fault."""
     rows = Rows(reader, most, row, kept)
-    for text, part in texts.parts:
-        place = 0
-        while True:
-            place = rows.read(text, part, place)
-            if rows.fault or not rows.is_full():
-                break
+    for texts in blocks:
+        behind = sum(len(text) for text, _ in texts.parts) + texts.behind
+        for text, part in texts.parts:
+            place, behind = 0, behind - len(text)
+            while True:
+                place = rows.read(text, part, place, behind)
+                if rows.fault:
+                    yield rows
+                    return
+                if not rows.is_full():
+                    break
+                yield rows
+                rows = Rows(reader, most, rows.end, kept)
+        if not texts.behind and rows.end > rows.row:
             yield rows
             rows = Rows(reader, most, rows.end, kept)
-        if rows.fault:
-            break
-    if rows.end > rows.row or rows.fault:
-        yield rows

@@ -7,6 +7,7 @@ from collections import Counter
 from itertools import chain
 from typing import TYPE_CHECKING, Iterator, Sequence
 
+from ._blocks import Block
 from ._core import _row_cells, _row_ends
 from ._faults import Part, hint_at
 from ._widths import header_cells, sizes_of
@@ -73,7 +74,7 @@ def with_header(how: How, header: bool) -> How:
     return how._replace(widths=sizes_of(how.widths)) if header and how.widths is not None else how
 
 
-def _behind_empty_rows(blocks: Iterator[bytes], how: How) -> tuple[Iterator[bytes], Part]:
+def _behind_empty_rows(blocks: Iterator[Block], how: How) -> tuple[Iterator[Block], Part]:
     """The blocks of a text after the empty rows at its front, if the table skips those, and how
     many bytes and lines they have."""
     if not how.skips_empty_rows:
@@ -91,12 +92,12 @@ def _behind_empty_rows(blocks: Iterator[bytes], how: How) -> tuple[Iterator[byte
         start, lines, left = start + stop, lines + left.count(b"\n", 0, stop), left[stop:]
         if is_begun or not block:
             break
-    return chain([left], blocks if block or not left else [b""]), Part(start=start, line=lines)
+    return chain([left], blocks, [b""]), Part(start=start, line=lines)
 
 
 def read_header(
-    blocks: Iterator[bytes], how: How, size: int
-) -> tuple[list[str], Iterator[bytes], Part]:
+    blocks: Iterator[Block], how: How, size: int
+) -> tuple[list[str], Iterator[Block], Part]:
     """The names of a header, the blocks after it, and how many bytes and lines stand before them.
 
     ValueError is raised for a header of more than `size` bytes, for a text without a byte, and for
@@ -112,7 +113,7 @@ def read_header(
     return names, chain([rest] if rest else [], blocks), before
 
 
-def _first_record(blocks: Iterator[bytes], record: int, size: int) -> tuple[bytes, bytes]:
+def _first_record(blocks: Iterator[Block], record: int, size: int) -> tuple[bytes, bytes]:
     """The first record, with a byte order mark that stands before it, and what was read after it.
     """
     text = bytearray()
@@ -130,7 +131,7 @@ def _first_record(blocks: Iterator[bytes], record: int, size: int) -> tuple[byte
 
 
 def _first_line(
-    blocks: Iterator[bytes], how: How, size: int, before: int
+    blocks: Iterator[Block], how: How, size: int, before: int
 ) -> tuple[bytes, bytes]:
     """The first line, and what was read after it, of a text after `before` bytes.
 

@@ -116,8 +116,9 @@ class Reader:
         # A row has at least this many bytes, unless it is the last: its cells and a line feed.
         self.least = self.record or (sum(sizes) + 1 if sizes else max(len(self.cells), 1))
         self.numpy = numpy_or_none()
-        # How many rows there were for each byte, as seen last: it says how much room a text needs.
-        self.rate = 0.0
+        # How many rows there were for each byte, as seen last, and at most how many at once: they
+        # say how much room a text needs.
+        self.rate, self.seen = 0.0, 0
 
     def room(self, rows: int) -> Table:
         """Arrays with room for `rows` rows, whose numbers may be any."""
@@ -136,16 +137,22 @@ class Reader:
         """The bits of `rows` rows, all of them 0."""
         return zeros(self.numpy, "B", (rows + 7) // 8)
 
+    def targets(self, arrays: dict[str, Any]) -> tuple[Optional[tuple[Any, ...]], ...]:
+        """Where the cells of a row go and how they are read, as `_parse_table` takes it."""
+        read = {name: (*pair_of(arrays[name]), it.type, it.format, _data_of(arrays[name]))
+                for name, it in self.read.items()}
+        return tuple(map(read.get, self.cells))
+
     def parse(
         self,
         text: Text,
         place: int,
-        arrays: dict[str, Any],
+        targets: tuple[Optional[tuple[Any, ...]], ...],
         at: int,
         rows: int,
         most_bad: int = -1,
     ) -> tuple[int, int, int, tuple[tuple[Any, ...], ...], bool]:
-        """Reads at most `rows` rows of a text, from a place on, into the arrays from row `at` on.
+        """Reads at most `rows` rows of a text, from a place on, into the targets from row `at` on.
 
         Returns how many good rows there were, the length of all rows in bytes, how many bad ones
         were skipped, the faults that are reported, and whether no further row follows.
@@ -153,18 +160,15 @@ class Reader:
         With `most_bad` -1, the first bad row is reported, and ends the reading. Otherwise bad rows
         are skipped, and at most `most_bad` reported; the next call goes on after them.
         """
-        read = {name: (*pair_of(arrays[name]), it.type, it.format, _data_of(arrays[name]))
-                for name, it in self.read.items()}
-        columns = tuple(map(read.get, self.cells))
         if most_bad <= 0:
-            found = _parse_table(text, place, sys.maxsize, True, self.how, columns, at, rows,
+            found = _parse_table(text, place, sys.maxsize, True, self.how, targets, at, rows,
                                  most_bad)
             return *found, found[0] < rows
         size, window = _text_size(text), _WINDOW
         while True:
             to = min(place + window, size)
             count, length, bad, faults = _parse_table(
-                text, place, to, to == size, self.how, columns, at, rows, most_bad)
+                text, place, to, to == size, self.how, targets, at, rows, most_bad)
             if length or to == size:
                 return count, length, bad, faults, to == size and count < rows and bad < most_bad
             window *= 2

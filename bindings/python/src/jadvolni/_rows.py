@@ -43,6 +43,7 @@ class Rows:
         self.count = self.bad = self.room = self.size = 0
         self.fault: Optional[Fault] = None
         self.arrays = Table()
+        self.targets: tuple[Optional[tuple[Any, ...]], ...] = ()
 
     @classmethod
     def of(
@@ -50,7 +51,7 @@ class Rows:
     ) -> Rows:
         """No rows yet, with arrays that have room for `most` of them."""
         rows = cls(reader, most, kept=kept)
-        rows.arrays, rows.room = arrays, most
+        rows.arrays, rows.targets, rows.room = arrays, reader.targets(arrays), most
         return rows
 
     @property
@@ -80,12 +81,13 @@ class Rows:
         """Reads at most `rows` rows. Returns their length in bytes, and whether that is all."""
         most_bad = self.reader.most_bad - len(self.kept) if self.kept else self.reader.most_bad
         count, length, bad, faults, is_end = self.reader.parse(
-            text, place, self.arrays, self.count, rows, most_bad)
+            text, place, self.targets, self.count, rows, most_bad)
         if faults:
             self._tell([self.reader.fault(it, text, part, self.end) for it in faults])
         self.count, self.bad, self.size = self.count + count, self.bad + bad, self.size + length
         if self.size:
             self.reader.rate = self.count / self.size
+            self.reader.seen = max(self.count, self.reader.seen)
         return length, is_end
 
     def _tell(self, faults: list[Fault]) -> None:
@@ -106,7 +108,7 @@ class Rows:
 
     def _guess(self, size: int) -> int:
         """How many rows `size` bytes may have, going by those before them, and some to spare."""
-        most = self.count * (_FOLD if self.reader.numpy else _FOLD_OF_ARRAY)
+        most = self.reader.seen * (_FOLD if self.reader.numpy else _FOLD_OF_ARRAY)
         return min(int(size * self.reader.rate * 1.125), most) + _FEW
 
     def _make_room(self, size: int, behind: int) -> int:
@@ -125,6 +127,7 @@ class Rows:
             self.arrays = Table({name: self._grown(it) for name, it in self.arrays.items()})
         else:
             self.arrays = self.reader.room(self.room)
+        self.targets = self.reader.targets(self.arrays)
 
     def _grown(self, values: Any) -> Any:
         """A column's arrays, grown to the room that there is now."""

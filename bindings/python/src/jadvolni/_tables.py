@@ -4,13 +4,12 @@ from __future__ import annotations
 
 import mmap as memory_map
 import os
-import stat
 import sys
 from contextlib import nullcontext, suppress
 from typing import (TYPE_CHECKING, Any, BinaryIO, Callable, ContextManager, Iterable, Iterator,
                     Mapping, NamedTuple, Optional, Union)
 
-from ._blocks import File, _block, _blocks, _one_or_more, keep_memory
+from ._blocks import Block, Blocks, File, _block, _one_or_more, _size_left, keep_memory
 from ._core import _row_count, _text_size
 from ._faults import AtFault, Errors, OnError, Part, at_fault, noting
 from ._files import Texts, read_texts, whole_rows
@@ -181,7 +180,7 @@ def parse_table(
     return _parse_text(text, asked)
 
 
-def _parts(text: memoryview) -> Iterator[bytes]:
+def _parts(text: memoryview) -> Iterator[Block]:
     """A text in parts that get larger, and after the last of them an empty one."""
     start, size = 0, 1 << 16
     while start < len(text):
@@ -268,15 +267,6 @@ def _mapped(file: BinaryIO) -> ContextManager[Any]:
     return nullcontext(_block(file, -1))
 
 
-def _size_left(file: Any) -> int:
-    """How many bytes are left in a file, or 0 if that isn't known."""
-    with suppress(AttributeError, OSError, ValueError):
-        status = os.fstat(file.fileno())
-        if stat.S_ISREG(status.st_mode):
-            return max(status.st_size - int(file.tell()), 0)
-    return 0
-
-
 def _opened(
     file: File, asked: _Asked, size: int, threads: int, most: int
 ) -> tuple[Reader, Iterator[Texts], int]:
@@ -285,14 +275,15 @@ def _opened(
     A row has at most `most` bytes. `progress` is called here for one thread, for more elsewhere.
     """
     asked = asked._replace(how=with_header(asked.how, asked.header))
-    blocks = _blocks(file, size, asked.progress if threads == 1 else None)
+    is_alone = threads == 1
+    blocks = Blocks(file, size, asked.progress if is_alone else None, by_pieces=is_alone)
     if not asked.header:
         reader = asked.reader()
-        return reader, whole_rows(blocks, reader, most, Part()), 0
+        return reader, whole_rows(blocks, blocks, reader, most, Part()), 0
     with noting(asked.at.source):
-        names, blocks, before = read_header(blocks, asked.how, most)
+        names, pieces, before = read_header(iter(blocks), asked.how, most)
         reader = asked.reader(names)
-    return reader, whole_rows(blocks, reader, most, before), before.start
+    return reader, whole_rows(pieces, blocks, reader, most, before), before.start
 
 
 def _told_rows(
@@ -311,7 +302,7 @@ def _read_opened(file: File, asked: _Asked) -> Table:
     """The rows of an opened file."""
     size, threads = _one_or_more("size", asked.size), _thread_count(asked.threads)
     if asked.out is not None:  # (all its rows are counted before one is written)
-        return _parse_text(b"".join(_blocks(file, size, asked.progress)), asked)
+        return _parse_text(b"".join(Blocks(file, size, asked.progress)), asked)
     left = _size_left(file)
     reader, blocks, start = _opened(file, asked, size, threads, sys.maxsize)
     rows, left = Rows(reader), left - start
@@ -367,7 +358,7 @@ def iter_table(
     and a table may have no row.
     """
     rows, size = _one_or_more("rows", rows), _one_or_more("size", size)
-    threads, row = _thread_count(threads), 0
+    threads = _thread_count(threads)
     how = How(separator, has_returns, has_quotes, allows_blanks, skips_empty_rows, missing, widths,
               is_records, allows_returns)
     at = at_fault(on_error, errors, _name_of(file))
@@ -379,9 +370,7 @@ def iter_table(
                 if found.end > found.row:
                     yield found.table()
         return
-    for texts in blocks:
-        for found in read_texts(reader, texts, rows, row):
-            row = found.end
-            if found.end > found.row:
-                yield found.table()
-            found.raise_fault()
+    for found in read_texts(reader, blocks, rows, 0):
+        if found.end > found.row:
+            yield found.table()
+        found.raise_fault()

@@ -73,7 +73,7 @@ def parse_in_threads(
 ) -> tuple[int, int]:
     """Reads the parts of a text in several threads, into arrays with room for the rows. Returns
     how many rows there are, and how many bad ones were skipped."""
-    reader.parse(text, 0, arrays, 0, 0)  # (this refuses wrong arguments)
+    reader.parse(text, 0, reader.targets(arrays), 0, 0)  # (this refuses wrong arguments)
     # The pool comes last, so that its threads have ended when the memory that they use is let go.
     with ExitStack() as held, Pool(threads) as pool:
         whole = held.enter_context(memoryview(bytes_of(text) if isinstance(text, str) else text))
@@ -110,7 +110,7 @@ def _tell_parts(
         if rows.fault:
             raise reader.error(rows.fault, row, start, line)
         faults = [fault.behind(0, start, line) for fault in rows.kept or ()]
-        tell_kept(reader, Texts([(text, Part(start, line))], 0), rows.bad, faults, row)
+        tell_kept(reader, Texts([(text, Part(start, line))]), rows.bad, faults, row)
         row, start, line = row + rows.end, start + len(text), line + reader.lines_in(text)
 
 
@@ -124,7 +124,7 @@ def tell_kept(reader: Reader, texts: Texts, bad: int, kept: list[Fault], row: in
         for fault in kept:
             tell(reader.error(fault, row))
         return
-    for rows in read_texts(reader, texts, _FEW, row):
+    for rows in read_texts(reader, [texts], _FEW, row):
         pass
 
 
@@ -133,7 +133,7 @@ def tell_kept(reader: Reader, texts: Texts, bad: int, kept: list[Fault], row: in
 def _read_part(reader: Reader, texts: Texts, most: int) -> tuple[list[Rows], list[Fault]]:
     """The rows of texts, at most `most` at once, and the first of the bad rows."""
     kept: list[Fault] = []
-    return list(read_texts(reader, texts, most, 0, kept)), kept
+    return list(read_texts(reader, [texts], most, 0, kept)), kept
 
 
 def rows_in_threads(
