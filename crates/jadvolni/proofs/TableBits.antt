@@ -1,11 +1,11 @@
 -- Columns with bits that say where a number is missing.
-use Rattle.std.proofs.Common.{◌≡◌, ◌*◌, ◌/◌, ◌≤◌, ◌∙◌, ℕ, Bool, true, false, cond, List, length, map, nat_eq, Option, Some, None, Result, Ok, Err, refl, ap, sym, subst, arith, length-set}
+use Rattle.std.proofs.Common.{◌≡◌, ◌*◌, ◌/◌, ◌≤◌, ◌∙◌, ℕ, Bool, true, false, cond, not, List, length, map, nat_eq, Option, Some, None, Result, Ok, Err, refl, ap, sym, subst, arith, length-set}
 use Rattle.std.specs.Prelude.{IfSome, is_some, option_map}
 use Rattle.std.proofs.lemmas.Bool.{false≢true}
 use Rattle.lexical_util.specs.declared.error.Error.{Error}
 use Rattle.lexical_fields.specs.Fields.{FieldView}
 use Rattle.lexical_tables.specs.ByColumn.{IsUsable}
-use Rattle.lexical_tables.specs.Targets.{Slice, TargetView, slice_of, error_in, has_bits, keeps_text, put_answer, put_text, put_value, text_answer, text_fault, with_number, with_row_bit}
+use Rattle.lexical_tables.specs.Targets.{Slice, TargetView, slice_of, error_in, has_bits, has_numbers, keeps_text, put_answer, put_text, put_value, text_answer, text_fault, with_number, with_row_bit}
 use Rattle.lexical_tables.specs.Readings.{FixedPoints, Integers, Number, Reading, Text, TextView, Texts, Value, answer_by, blank, keeps_texts, text_of}
 use Rattle.jadvolni.specs.Arrays.{ArrayView, array_in}
 use Rattle.jadvolni.specs.Tables.{bits_of, put_number, put_place, put_presence, put_zero, reading_of, target_as, target_by, target_of, text_view}
@@ -119,6 +119,15 @@ pub missing_put : (row : ℕ) (before between after : Option TargetView) → bet
 missing_put row before between after zeroed told =
     told ∙ ap (option_map (put_presence row false)) zeroed ∙ zero_missing row before
 
+-- a column of numbers keeps no texts
+none_kept : (texts : Bool) → not texts ≡ true → texts ≡ false
+none_kept true is = absurd (false≢true is)
+none_kept false is = refl
+
+pub no_texts : (target : Option TargetView) → has_numbers target ≡ true → keeps_text target ≡ false
+no_texts None is = refl
+no_texts (Some target) is = none_kept (keeps_texts target.reading) is
+
 -- a fault puts nothing
 failed : (row : ℕ) (answer : Result Value Error) (target : TargetView) (error : Error) → Some error ≡ error_in answer
     → record target { values = with_number row answer target.values } ≡ put_answer row answer target
@@ -135,6 +144,20 @@ pub number_failed : (row : ℕ) (text : FieldView) (before after : Option Target
     → Some error ≡ text_fault before text → after ≡ option_map (put_number row text) before
     → after ≡ option_map (put_text row text) before
 number_failed row text before after error is told = told ∙ failed_in row text before error is
+
+unchanged : (row : ℕ) (answer : Result Value Error) (target : TargetView) → is_some (error_in answer) ≡ true
+    → record target { values = with_number row answer target.values } ≡ target
+unchanged row (Ok value) target is = absurd cc
+unchanged row (Err error) target is = refl
+
+kept_in : (row : ℕ) (text : FieldView) (target : Option TargetView) → is_some (text_fault target text) ≡ true
+    → option_map (put_number row text) target ≡ target
+kept_in row text None is = absurd cc
+kept_in row text (Some target) is = ap Some (unchanged row (text_answer target text) target is)
+
+pub number_kept : (row : ℕ) (text : FieldView) (before after : Option TargetView)
+    → is_some (text_fault before text) ≡ true → after ≡ option_map (put_number row text) before → after ≡ before
+number_kept row text before after is told = told ∙ kept_in row text before is
 
 -- a number is put with its bit
 passed : (row : ℕ) (answer : Result Value Error) (target : TargetView) → None ≡ error_in answer
@@ -154,6 +177,19 @@ pub number_read : (row : ℕ) (text : FieldView) (before between after : Option 
     → after ≡ option_map (put_presence row true) between → after ≡ option_map (put_text row text) before
 number_read row text before between after is numbered told =
     told ∙ ap (option_map (put_presence row true)) numbered ∙ passed_in row text before is
+
+-- or without one, where none may be missing
+same_bits : (row : ℕ) (text : FieldView) (target : Option TargetView)
+    → has_bits (option_map (put_number row text) target) ≡ has_bits target
+same_bits row text None = refl
+same_bits row text (Some target) = refl
+
+pub number_alone : (row : ℕ) (text : FieldView) (before after : Option TargetView) → has_bits before ≡ false
+    → None ≡ text_fault before text → after ≡ option_map (put_number row text) before
+    → after ≡ option_map (put_text row text) before
+number_alone row text before after bits is told =
+    number_read row text before after after is told
+    (no_bit row true after (ap has_bits told ∙ same_bits row text before ∙ bits))
 
 -- a text is put with its bit
 place_used : (room row : ℕ) (text : TextView) (target : Option TargetView) → IsUsable room target

@@ -115,6 +115,29 @@ impl ArrayFields<'_> {
 impl ColumnFields<'_> {
     // Puts the integer of a text into a row's place, where the column's format is the standard one but for its radix, and the
     // text is digits alone or behind a minus. That format isn't made field by field.
+    #[inline(always)]
+    fn put_by_radix(&mut self, row: usize, text: &[u8]) -> bool
+        requires integers { self.old.description.places ≡ 0 }
+        requires standard { format_of self.old.description.integer ≡ record standard {
+          mantissa_radix = self.old.description.integer.mantissa_radix;
+        } }
+        requires usable { IsUsable (row + 1) (target_of self.old) }
+        ensures fault { IsTrue result → (start : ℕ) → text_fault (target_of self.old)
+            (record { start = start; text = text.now }) ≡ None }
+        ensures target { IsTrue result → (start : ℕ) → target_of self.new
+            ≡ option_map (put_number row (record { start = start; text = text.now }))
+            (target_of self.old) }
+        ensures kept { result ≡ false → target_of self.new ≡ target_of self.old }
+        ensures description { self.new.description ≡ self.old.description }
+    {
+        let Some(numbers) = self.arrays.number_type() else {
+            return false;
+        };
+        let radix = self.description.integer.mantissa_radix;
+        self.arrays.put_in_radix(numbers, row, text, radix)
+    }
+
+    // Puts the integer of a text as `put_by_radix` does, if the column has such a format.
     #[inline(never)]
     fn put_in_radix(&mut self, row: usize, text: &[u8]) -> bool
         requires integers { self.old.description.places ≡ 0 }
@@ -130,11 +153,7 @@ impl ColumnFields<'_> {
         if !self.description.integer.is_standard_but_radix() {
             return false;
         }
-        let Some(numbers) = self.arrays.number_type() else {
-            return false;
-        };
-        let radix = self.description.integer.mantissa_radix;
-        self.arrays.put_in_radix(numbers, row, text, radix)
+        self.put_by_radix(row, text)
     }
 
     // Puts the integer of a text into a row's place, or returns the text's fault, under a decimal format without punctuation.
@@ -184,6 +203,45 @@ impl ColumnFields<'_> {
         };
         self.arrays
             .put_by_format(numbers, row, start, text, &self.description.integer)
+    }
+
+    // Puts the number of a text into a row's place, and returns whether it did. Out of line: the fault goes through memory.
+    #[inline(never)]
+    fn put_rare_number(&mut self, row: usize, text: &[u8]) -> bool
+        requires numbers { keeps_text (target_of self.old) ≡ false }
+        requires usable { IsUsable (row + 1) (target_of self.old) }
+        requires fits { length text.now < 2 ^ 64 }
+        ensures fault { IsTrue result → text_fault (target_of self.old)
+            (record { start = 0; text = text.now }) ≡ None }
+        ensures target { IsTrue result → target_of self.new ≡ option_map (put_number row
+            (record { start = 0; text = text.now })) (target_of self.old) }
+        ensures kept { result ≡ false → target_of self.new ≡ target_of self.old }
+    {
+        if self.description.places != 0 {
+            return self.put_fixed_number(row, 0, text).is_none();
+        }
+        self.put_by_format(row, 0, text).is_none()
+    }
+
+    // Puts the number of a text into a row's place, where it is one, and returns whether it did. Under a plain radix no fault is
+    // told: what isn't read at once is left.
+    #[inline(always)]
+    pub(crate) fn put_bare_number(&mut self, row: usize, text: &[u8]) -> bool
+        requires numbers { keeps_text (target_of self.old) ≡ false }
+        requires usable { IsUsable (row + 1) (target_of self.old) }
+        requires fits { length text.now < 2 ^ 64 }
+        ensures fault { IsTrue result → text_fault (target_of self.old)
+            (record { start = 0; text = text.now }) ≡ None }
+        ensures target { IsTrue result → target_of self.new ≡ option_map (put_number row
+            (record { start = 0; text = text.now })) (target_of self.old) }
+        ensures kept { result ≡ false → target_of self.new ≡ target_of self.old }
+    {
+        if self.description.places == 0 {
+            if self.description.integer.is_standard_but_radix() {
+                return self.put_by_radix(row, text);
+            }
+        }
+        self.put_rare_number(row, text)
     }
 
     // Puts the integer of a text into a row's place, or returns the text's fault, under another format than the standard one.

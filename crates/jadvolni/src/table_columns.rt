@@ -297,6 +297,12 @@ impl TableColumn for ColumnFields<'_> {
         None
     }
 
+    // Out of line, so that the loop over cells stays small.
+    #[inline(never)]
+    fn read_parsed(&mut self, row: usize, ahead: &[u8], size: usize, options: &Options) -> bool {
+        self.put_bare_number(row, &ahead[..size])
+    }
+
     #[inline(always)]
     fn code(&self) -> u8 {
         let Some(numbers) = self.arrays.number_type() else {

@@ -8,7 +8,7 @@ use Rattle.lexical_tables.specs.Readings.{FixedPoints, Integers, Reading, Texts,
 use Rattle.lexical_tables.specs.ByColumn.{kind_of, kinds_of, put_read_at, put_row}
 use Rattle.lexical_tables.specs.Amounts.{AreAmounts, AreAmountsIfFixed, HasAmounts, HasAmountsIfFixed, IsAmountsIn}
 use Rattle.lexical_tables.specs.Cells.{Kind, ends_in_digit}
-use Rattle.lexical_tables.specs.Codes.{AreCoded, AreCodes, IsCode, IsCodeIn, IsReadAs, has_coded_bits}
+use Rattle.lexical_tables.specs.Codes.{AreCoded, AreCodes, IsBareIn, IsCode, IsCodeIn, IsReadAs, has_coded_bits}
 use Rattle.lexical_tables.specs.Targets.{TargetView, has_bits, has_numbers, keeps_text}
 use Rattle.lexical_tables.specs.declared.answers.CellFault.{CellFault}
 use Rattle.lexical_tables.specs.declared.dialect.Dialect.{Dialect}
@@ -72,6 +72,7 @@ asked_code dialect code target is read = record {
   };
   no_number = λ more. absurd (omega (arith, more));
   amounts = λ four. absurd (omega (arith, four));
+  bare = λ six. absurd (omega (arith, six));
 }
 
 -- a code of no type, but for that of amounts, says what the column does
@@ -81,6 +82,7 @@ low_code dialect code target is low = record {
   column = is;
   no_number = λ more. absurd (omega (arith, low, more));
   amounts = λ four. absurd (omega (arith, low, four));
+  bare = λ six. absurd (omega (arith, low, six));
 }
 
 -- so does that of numbers that are parsed
@@ -90,6 +92,23 @@ parsed_code dialect code target is five = record {
   column = is;
   no_number = λ more. absurd (omega (arith, five, more));
   amounts = λ four. absurd (omega (arith, five, four));
+  bare = λ six. absurd (omega (arith, five, six));
+}
+
+-- and where a cell is its number, that of bare ones
+pub bare_code : (dialect : Dialect) (target : Option TargetView) → IsCode 5 target → dialect.has_quotes ≡ false
+    → dialect.allows_blanks ≡ false → has_bits target ≡ false → IsCodeIn dialect 6 target
+bare_code dialect target is quotes blanks bits = record {
+  column = record {
+    unread = λ one. absurd (omega (arith, one));
+    texts = λ two. absurd (omega (arith, two));
+    numbers = λ three. absurd (omega (arith, three));
+    parsed = λ five. absurd (omega (arith, five));
+    read = λ more. absurd (omega (arith, more));
+  };
+  no_number = λ more. absurd (omega (arith, more));
+  amounts = λ four. absurd (omega (arith, four));
+  bare = λ six. record { numbers = is.parsed refl; no_quotes = quotes; no_blanks = blanks; no_bits = bits };
 }
 
 -- integers under any format may be parsed
@@ -115,6 +134,7 @@ none_code dialect target = record {
   };
   no_number = λ more. absurd (omega (arith, more));
   amounts = λ four. absurd (omega (arith, four));
+  bare = λ six. absurd (omega (arith, six));
 }
 
 -- the code of a type
@@ -125,6 +145,7 @@ type_code dialect code target is type mark = record {
   column = is;
   no_number = λ more. mark;
   amounts = λ four. absurd (omega (arith, type, four));
+  bare = λ six. absurd (omega (arith, type, six));
 }
 
 -- the code of amounts
@@ -140,6 +161,7 @@ amounts_code dialect target has blanks mark = record {
   };
   no_number = λ more. absurd (omega (arith, more));
   amounts = λ four. record { column = has; no_blanks = blanks; no_number = mark };
+  bare = λ six. absurd (omega (arith, six));
 }
 
 amounts_numbers : (reading : Reading) → AreAmounts reading → not (keeps_texts reading) ≡ true
@@ -198,6 +220,16 @@ same_amounts dialect old new same is = record {
   no_number = λ has. is.no_number (sym (misses old) ∙ ap may_miss (sym same) ∙ misses new ∙ has);
 }
 
+-- they stay bare
+same_bare : (dialect : Dialect) (old new : Option TargetView) → option_map kind_of new ≡ option_map kind_of old
+    → IsBareIn dialect old → IsBareIn dialect new
+same_bare dialect old new same is = record {
+  numbers = sym (numbers_are new) ∙ ap are_numbers same ∙ numbers_are old ∙ is.numbers;
+  no_quotes = is.no_quotes;
+  no_blanks = is.no_blanks;
+  no_bits = sym (misses new) ∙ ap may_miss same ∙ misses old ∙ is.no_bits;
+}
+
 -- so the code stays right where the column is read as before
 same_code : (dialect : Dialect) (code : ℕ) (old new : Option TargetView)
     → option_map kind_of new ≡ option_map kind_of old → IsCodeIn dialect code old → IsCodeIn dialect code new
@@ -211,6 +243,7 @@ same_code dialect code old new same is = record {
   };
   no_number = is.no_number;
   amounts = λ four. same_amounts dialect old new same (is.amounts four);
+  bare = λ six. same_bare dialect old new same (is.bare six);
 }
 
 -- what the column at a place is read as

@@ -1,7 +1,7 @@
 -- What a column says of all its cells, as a byte.
 -- 0: nothing is known, and the column is asked at each cell. 1: its cells aren't read. 2: they are texts. 3: they are
 -- numbers, which the column is asked for at each cell. 4: they are amounts, which it reads as such. 5: they are numbers,
--- which it parses. 8 and more: they are read as decimal digits behind an optional minus are, whatever else the format allows, as numbers of u8, u16, u32, u64,
+-- which it parses. 6: they are numbers which it parses, and each cell is one, without quotes, blanks or a mark. 8 and more: they are read as decimal digits behind an optional minus are, whatever else the format allows, as numbers of u8, u16, u32, u64,
 -- i8, i16, i32 or i64 in this order. 16 is added where a number may be missing, and 32 where no zero may stand in front of
 -- another digit.
 use Rattle.std.specs.Prelude.{◌≡◌, ◌-◌, ◌*◌, ◌%◌, ◌^◌, ◌<◌, ◌≤◌, ◌⊎◌, ℕ, Bool, false, true, IsTrue, List, get_or, length, nat_le, slice_index, Option, Some, None, is_some, option_map}
@@ -14,7 +14,7 @@ use Rattle.lexical_tables.specs.Amounts.{IsAmountsIn}
 use Rattle.lexical_tables.specs.Cells.{ends_in_digit}
 use Rattle.lexical_tables.specs.Quotes.{quote}
 use Rattle.lexical_tables.specs.Readings.{FixedPoints, Integers, Number, Reading, Texts}
-use Rattle.lexical_tables.specs.Targets.{TargetView, has_numbers, keeps_text, put_value}
+use Rattle.lexical_tables.specs.Targets.{TargetView, has_bits, has_numbers, keeps_text, put_value}
 use Rattle.lexical_tables.specs.declared.dialect.Dialect.{Dialect}
 
 -- the type at a place among u8, u16, u32, u64, i8, i16, i32 and i64
@@ -61,12 +61,20 @@ pub record IsCode (code : ℕ) (target : Option TargetView) : Type 0 where
   pub parsed : code ≡ 5 → has_numbers target ≡ true
   pub read : 8 ≤ code → IsReadAs code target
 
+-- In a column of numbers whose cells are bare, neither quotes, blanks nor a mark stand in these.
+pub record IsBareIn (dialect : Dialect) (target : Option TargetView) : Type 0 where
+  pub numbers : has_numbers target ≡ true
+  pub no_quotes : dialect.has_quotes ≡ false
+  pub no_blanks : dialect.allows_blanks ≡ false
+  pub no_bits : has_bits target ≡ false
+
 -- A code is right for a column in a table: where it says how its cells are read, what stands for a missing number is none
 -- itself. So it is in a column of amounts.
 pub record IsCodeIn (dialect : Dialect) (code : ℕ) (target : Option TargetView) : Type 0 where
   pub column : IsCode code target
   pub no_number : 8 ≤ code → has_coded_bits code ≡ true → ends_in_digit dialect.missing.now ≡ false
   pub amounts : code ≡ 4 → IsAmountsIn dialect target
+  pub bare : code ≡ 6 → IsBareIn dialect target
 
 -- each column with a place among the codes has its code
 abbrev pub AreCodes : Dialect → List ℕ → List (Option TargetView) → Type 0

@@ -33,8 +33,12 @@ pub const AT_ONCE: u8 = 3;
 // `AT_ONCE`.
 pub(crate) const AMOUNTS: u8 = 4;
 
-/// The column's cells are numbers of which `read_at_once` has none: `read_left` parses them.
+/// The column's cells are numbers of which `read_at_once` has none: `read_parsed` and `read_left` parse them.
 pub const PARSED: u8 = 5;
+
+// The column's cells are numbers which `TableColumn::read_parsed` parses: neither quotes, blanks nor a mark stand in them. A
+// table's reader says it, of a column that says `PARSED`.
+pub(crate) const BARE: u8 = 6;
 
 /// Numbers of 8 bits without a sign.
 pub const U8: u8 = 8;
@@ -129,9 +133,22 @@ fn code_of_amounts<C: TableColumn>(target: &C, dialect: &Dialect<'_>, is_mark_nu
     AT_ONCE
 }
 
+// The code of a column of numbers that says `PARSED`: where a cell is its number, that of bare ones.
+#[inline(always)]
+#[tactic(auto, using(crate::proofs::CodeSteps::parsed_code, crate::proofs::CodeSteps::bare_code))]
+fn code_of_parsed<C: TableColumn>(target: &C, dialect: &Dialect<'_>) -> u8
+    requires code { IsCode 5 (C.target target.now) }
+    ensures { IsCodeIn dialect.now result (C.target target.now) }
+{
+    if dialect.has_quotes || dialect.allows_blanks || target.may_miss() {
+        return PARSED;
+    }
+    BARE
+}
+
 // A column's code in a table: where the mark may be a number too, its numbers are asked for.
 #[inline(always)]
-#[tactic(auto, using(crate::proofs::CodeSteps::asked_code, crate::proofs::CodeSteps::low_code, crate::proofs::CodeSteps::none_code, crate::proofs::CodeSteps::parsed_code, crate::proofs::CodeSteps::type_code))]
+#[tactic(auto, using(crate::proofs::CodeSteps::asked_code, crate::proofs::CodeSteps::low_code, crate::proofs::CodeSteps::none_code, crate::proofs::CodeSteps::type_code))]
 fn code_in<C: TableColumn>(target: &C, dialect: &Dialect<'_>, is_mark_number: bool) -> u8
     requires mark { is_mark_number ≡ ends_in_digit dialect.now.missing.now }
     ensures { IsCodeIn dialect.now result (C.target target.now) }
@@ -141,7 +158,7 @@ fn code_in<C: TableColumn>(target: &C, dialect: &Dialect<'_>, is_mark_number: bo
         return code;
     }
     if code == PARSED {
-        return code;
+        return code_of_parsed(target, dialect);
     }
     if code == AT_ONCE {
         return code_of_amounts(target, dialect, is_mark_number);
@@ -172,7 +189,7 @@ pub(crate) fn put_codes<C: TableColumn>(
     for column in 0..count {
         let code = code_in(&targets[column], dialect, is_mark_number);
         codes[column] = code;
-        if code == AMOUNTS || code == PARSED {
+        if code == AMOUNTS || code == PARSED || code == BARE {
             has_calls = true;
         }
     }

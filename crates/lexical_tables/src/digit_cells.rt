@@ -8,9 +8,9 @@ ghost use Rattle.lexical_tables.specs.ByColumn.{IsUsable, fault_in, kind_of, put
 ghost use Rattle.lexical_tables.specs.Cells.{answer_as, quote_fault};
 ghost use Rattle.lexical_tables.specs.Codes.{AreQuotesRound, IsCodeIn, IsDecimal, IsNumberPut, IsNumeralUnder, IsReadAs, has_zero_rule};
 
-use crate::codes::{AMOUNTS, NOT_READ, PARSED, U8, WITH_ZERO_RULE};
+use crate::codes::{AMOUNTS, BARE, NOT_READ, PARSED, U8, WITH_ZERO_RULE};
 use crate::dialect::Dialect;
-use crate::known_cells::read_parsed_cell;
+use crate::known_cells::{read_bare_cell, read_parsed_cell};
 use crate::quotes::shows_no_quote;
 use crate::targets::TableColumn;
 use lexical_fields::{long_number_of_front, number_of_front};
@@ -153,6 +153,9 @@ pub(crate) fn read_coded<C: TableColumn, const HAS_QUOTES: bool, const HAS_CALLS
     if code < U8 {
         if HAS_CALLS && code == AMOUNTS {
             return read_amount::<C, HAS_QUOTES>(target, row, ahead, size, dialect);
+        }
+        if HAS_CALLS && code == BARE {
+            return read_bare_cell(target, row, ahead, size, dialect, options);
         }
         if HAS_CALLS && code == PARSED {
             return read_parsed_cell(target, row, ahead, size, dialect, options);

@@ -10,7 +10,7 @@ ghost use Rattle.lexical_tables.specs.Amounts.{HasAmounts, HasAmountsIfFixed, Is
 ghost use Rattle.lexical_tables.specs.ByColumn.{IsUsable};
 ghost use Rattle.lexical_tables.specs.Codes.{IsCode, IsReadAs, coded_type};
 ghost use Rattle.lexical_tables.specs.Readings.{Number, Text};
-ghost use Rattle.lexical_tables.specs.Targets.{TargetView, error_in, has_bits, keeps_text, put_text, put_value, slice_of, text_answer, text_fault, view_of_target, view_of_text, with_number, with_row_bit};
+ghost use Rattle.lexical_tables.specs.Targets.{TargetView, error_in, has_bits, has_numbers, keeps_text, put_text, put_value, slice_of, text_answer, text_fault, view_of_target, view_of_text, with_number, with_row_bit};
 
 use crate::at_once::put_at_once;
 use crate::cell_text::CellText;
@@ -237,6 +237,26 @@ pub trait TableColumn {
         ensures kept { result ≡ false → target self.new ≡ target self.old }
     {
         false
+    }
+
+    /// Puts the number that a text's first `size` bytes stand for into a row's place, and returns whether it did. Else it puts
+    /// nothing, and says nothing of them: `read` has to be asked. A column is asked only if it says `PARSED`, and has no bits.
+    ///
+    /// A column that doesn't write it asks `read_left`.
+    #[inline(never)]
+    fn read_parsed(&mut self, row: usize, ahead: &[u8], size: usize, options: &Options) -> bool
+        requires numbers { has_numbers (target self.old) ≡ true }
+        requires bits { has_bits (target self.old) ≡ false }
+        requires usable { IsUsable (row + 1) (target self.old) }
+        requires within { size ≤ length ahead.now }
+        ensures fault { IsTrue result → text_fault (target self.old)
+            (record { start = 0; text = take size ahead.now }) ≡ None }
+        ensures target { IsTrue result → target self.new ≡ option_map (put_text row
+            (record { start = 0; text = take size ahead.now })) (target self.old) }
+        ensures kept { result ≡ false → target self.new ≡ target self.old }
+    {
+        self.read_left(row, 0, &ahead[..size], ahead, options)
+            .is_none()
     }
 
     /// What the column says of all its cells, as one of [`codes`](crate::codes): it is asked once a call. `UNKNOWN`, as a
