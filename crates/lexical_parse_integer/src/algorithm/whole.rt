@@ -326,16 +326,12 @@ fn complete_many<T: Integer>(bytes: &[u8], format: &NumberFormat) -> Result<T>
 
 // The complete answer under a valid format of any radix without punctuation.
 #[inline(never)]
-#[tactic(auto, using(crate::proofs::plain::DigitsAlone::valid_answer))]
 fn complete_plain<T: Integer>(bytes: &[u8], format: &NumberFormat) -> Result<T>
     requires plain { IsPlain format.now }
     requires valid { IsNone (fault format.now) }
     ensures { view_of T.number result ≡ complete format.now T.TYPE bytes.now }
 {
-    match value_of_plain::<T>(bytes, format) {
-        Some(value) => Ok(value),
-        None => complete_from_front::<T>(bytes, format),
-    }
+    plain_rest::<T>(bytes, format)
 }
 
 // The complete answer under a valid format with a separator: the text's head is read once, and a fault there is returned.
