@@ -24,7 +24,7 @@ use Rattle.lexical_parse_integer.specs.Runs.{are_same, digit_at, digits_between,
 use Rattle.lexical_parse_integer.proofs.ForCallers.{HoldsBetween, IsStop-end_of, IsStop-unique, begin_of_is, belongs_digit, belongs_other, belongs_separator, digit_at_past, fits, fits_named, fitting_fault, shorter_fronts_fit, not_asked, sign_of_digit_under, stop_of_is, true_or_false}
 use Rattle.lexical_literals.proofs.DecimalFronts.{IsStandard, bare_by_letter, head_is_bare, no_octal_zero, some_digits, standard_told}
 use Rattle.lexical_literals.specs.Decimal.{ReadsDecimals, zero_leads}
-use Rattle.lexical_literals.specs.Groups.{AreDigitsBetween, AreGroups, Parts, StartsAt, WritesGroups, WritesOn, WritesRow, has_digit, number_between}
+use Rattle.lexical_literals.specs.Groups.{AreDigitsBetween, AreGroups, AreSeparatorsBetween, Parts, StartsAt, WritesGroups, WritesOn, WritesRow, has_digit, number_between}
 
 -- ---- the digits between two places, one place more
 
@@ -148,9 +148,9 @@ part_within r text k is = elim (cases_lt k (length text)) [
 ]
 
 -- a row of digits is a group
-pub row_groups : (sep r : ℕ) (text : List ℕ) (start number stop : ℕ) → WritesRow r text start number stop
-    → WritesGroups sep r text start number stop
-row_groups sep r text start number stop row =
+pub row_groups : (many : Bool) (sep r : ℕ) (text : List ℕ) (start number stop : ℕ) → WritesRow r text start number stop
+    → WritesGroups many sep r text start number stop
+row_groups many sep r text start number stop row =
     let some = row.some in
     record {
       some = row.some;
@@ -165,6 +165,12 @@ row_groups sep r text start number stop row =
 pub stands_here : (text : List ℕ) (k byte : ℕ) → k < length text → slice_index text k ≡ byte → slice_get text k ≡ Some byte
 stands_here text k byte low is = slice_get-get_or text k 0 low ∙ ap Some is
 
+pub other_here : (text : List ℕ) (k byte : ℕ) → k < length text → slice_index text k ≢ byte → slice_get text k ≢ Some byte
+other_here text k byte low other here = other (some_same (sym (slice_get-get_or text k 0 low) ∙ here))
+
+pub not_past : (text : List ℕ) (k byte : ℕ) → length text ≤ k → slice_get text k ≢ Some byte
+not_past text k byte past here = let low = within_of text k byte here in omega arith
+
 pub other_apart : (f : Format) (text : List ℕ) (k sep : ℕ) → f.digit_separator ≡ Some sep → k < length text
     → slice_index text k ≢ sep → separator_at f text k ≡ false
 unfolding separator_at are_same
@@ -172,6 +178,15 @@ other_apart f text k sep own low other =
     let here = slice_get-get_or text k 0 low in
     let apart = ne_eqb (slice_index text k) sep other in
     rw (own, here) apart
+
+pub elsewhere : (f : Format) (text : List ℕ) (k sep : ℕ) → f.digit_separator ≡ Some sep → slice_get text k ≢ Some sep
+    → separator_at f text k ≡ false
+unfolding separator_at are_same
+elsewhere f text k sep own other = rw own (by_byte (slice_get text k) other)
+  where
+    by_byte : (o : Option ℕ) → o ≢ Some sep → are_same (Some sep) o ≡ false
+    by_byte None apart = refl
+    by_byte (Some b) apart = ne_eqb b sep (λ e. apart (ap Some e))
 
 pub own_here : (f : Format) (text : List ℕ) (k sep : ℕ) → f.digit_separator ≡ Some sep → slice_get text k ≡ Some sep
     → separator_at f text k ≡ true
@@ -187,35 +202,89 @@ none_at : (r sep : ℕ) (text : List ℕ) (k : ℕ) → digit r sep ≡ None →
 unfolding digit_at
 none_at r sep text k other here = rw (here, other) refl
 
-group_more : (sep r : ℕ) (text : List ℕ) (start k stop : ℕ) → AreGroups sep r text start k → Parts sep r text start k
-    → AreDigitsBetween r text (k + 1) stop → AreGroups sep r text start stop
-group_more sep r text start k stop groups p row i low high none = elim (cases_lt i k) [
+-- separators add nothing
+others_more : (sep r : ℕ) (text : List ℕ) (start k n : ℕ) → digit r sep ≡ None → start ≤ k
+    → AreSeparatorsBetween sep text k (k + n) → number_between r text start (k + n) ≡ number_between r text start k
+others_more sep r text start k zero other low run = let e : k + 0 ≡ k = omega arith in ap (number_between r text start) e
+others_more sep r text start k (suc n) other low run =
+    let e : k + suc n ≡ k + n + 1 = omega arith in
+    let here = none_at r sep text (k + n) other (run (k + n) (omega arith) (omega arith)) in
+    ap (number_between r text start) e ∙ other_more r text start (k + n) (omega arith) here
+    ∙ others_more sep r text start k n other low (λ i l h. run i l (omega arith))
+
+run_more : (sep r : ℕ) (text : List ℕ) (start k next : ℕ) → digit r sep ≡ None → start ≤ k → k ≤ next
+    → AreSeparatorsBetween sep text k next → number_between r text start next ≡ number_between r text start k
+run_more sep r text start k next other low forward run =
+    let e : k + (next - k) ≡ next = omega arith in
+    sym (ap (number_between r text start) e)
+    ∙ others_more sep r text start k (next - k) other low (λ i l h. run i l (omega arith))
+
+group_more : (many : Bool) (sep r : ℕ) (text : List ℕ) (start k next stop : ℕ) → AreGroups many sep r text start k
+    → ((i : ℕ) → k ≤ i → i < next → Parts many sep r text start i)
+    → AreDigitsBetween r text next stop → AreGroups many sep r text start stop
+group_more many sep r text start k next stop groups parts row i low high none = elim (cases_lt i k) [
   | inl lt ↦ groups i low lt none
-  | inr ge ↦ elim (cases_lt k i) [
-    | inl gt ↦ absurd (false≢true (sym none ∙ row i (omega arith) high))
-    | inr le ↦ let e : k ≡ i = omega arith in subst (Parts sep r text start) e p
+  | inr ge ↦ elim (cases_lt i next) [
+    | inl lt ↦ parts i ge lt
+    | inr past ↦ absurd (false≢true (sym none ∙ row i past high))
   ]
 ]
 
--- one row more, behind a separator
-pub groups_more : (sep r : ℕ) (text : List ℕ) (start number k next to : ℕ) → digit r sep ≡ None
-    → WritesGroups sep r text start number k → slice_get text k ≡ Some sep → has_digit r text (k + 1) ≡ true
-    → k + 1 ≤ to → to ≤ length text → AreDigitsBetween r text (k + 1) to → WritesOn r text number (k + 1) next to
-    → WritesGroups sep r text start next to
-groups_more sep r text start number k next to other w here after low high row writes =
+-- one row more, behind a run of separators
+pub groups_more : (many : Bool) (sep r : ℕ) (text : List ℕ) (start number k next grown to : ℕ) → digit r sep ≡ None
+    → WritesGroups many sep r text start number k → k < next → AreSeparatorsBetween sep text k next
+    → has_digit r text next ≡ true → (many ≡ false → next ≡ k + 1) → next ≤ to → to ≤ length text
+    → AreDigitsBetween r text next to → WritesOn r text number next grown to
+    → WritesGroups many sep r text start grown to
+groups_more many sep r text start number k next grown to other w more run after alone low high row writes =
     let some = w.some in
-    let none = none_at r sep text k other here in
+    let none = none_at r sep text k other (run k (omega arith) more) in
     record {
       some = omega arith;
       within = high;
-      groups = group_more sep r text start k to w.groups
-          (record { behind = some; here = here; before = w.last (ap is_some none); after = after }) row;
-      writes = writes start (omega arith) (w.writes ∙ sym (other_more r text start k (omega arith) none));
-      last = λ missing. elim (cases_lt (k + 1) to) [
+      groups = group_more many sep r text start k next to w.groups
+          (λ i l h. record {
+            from = k;
+            to = next;
+            behind = some;
+            low = l;
+            high = h;
+            run = run;
+            before = w.last (ap is_some none);
+            after = after;
+            alone = alone;
+          }) row;
+      writes = writes start (omega arith)
+          (w.writes ∙ sym (run_more sep r text start k next other (omega arith) (omega arith) run));
+      last = λ missing. elim (cases_lt next to) [
         | inl lt ↦ row (to - 1) (omega arith) (omega arith)
-        | inr ge ↦ let e : to ≡ k + 1 = omega arith in absurd (false≢true (sym missing ∙ ap (has_digit r text) e ∙ after))
+        | inr ge ↦ let e : to ≡ next = omega arith in absurd (false≢true (sym missing ∙ ap (has_digit r text) e ∙ after))
       ];
     }
+
+-- a separator alone is a run
+pub one_run : (sep : ℕ) (text : List ℕ) (k : ℕ) → slice_get text k ≡ Some sep → AreSeparatorsBetween sep text k (k + 1)
+one_run sep text k here i low high =
+    let e : k ≡ i = omega arith in subst (λ (j : ℕ). slice_get text j ≡ Some sep) e here
+
+pub separator_more : (sep : ℕ) (text : List ℕ) (from k : ℕ) → slice_get text k ≡ Some sep
+    → AreSeparatorsBetween sep text from k → AreSeparatorsBetween sep text from (k + 1)
+separator_more sep text from k here run i low high = elim (cases_lt i k) [
+  | inl lt ↦ run i low lt
+  | inr ge ↦ let e : k ≡ i = omega arith in subst (λ (j : ℕ). slice_get text j ≡ Some sep) e here
+]
+
+-- what stands behind a separator, where no digit ends its run
+pub no_digit_behind : (sep r : ℕ) (text : List ℕ) (k stop : ℕ) → digit r sep ≡ None → k ≤ stop
+    → AreSeparatorsBetween sep text k stop → slice_get text stop ≢ Some sep → has_digit r text stop ≡ false
+    → slice_get text k ≡ Some sep → has_digit r text (k + 1) ≡ false
+no_digit_behind sep r text k stop other low run ends none here = elim (cases_lt (k + 1) stop) [
+  | inl lt ↦ ap is_some (none_at r sep text (k + 1) other (run (k + 1) (omega arith) lt))
+  | inr ge ↦ elim (cases_lt k stop) [
+    | inl lt ↦ let e : stop ≡ k + 1 = omega arith in sym (ap (has_digit r text) e) ∙ none
+    | inr past ↦ let e : k ≡ stop = omega arith in absurd (ends (sym (ap (slice_get text) e) ∙ here))
+  ]
+]
 
 -- ---- where the groups end
 
@@ -386,27 +455,58 @@ module _ (f : Format) (r : ℕ) (text : List ℕ) (pre : Bool) (start : ℕ) (s 
     unfolding flag_for
     flagged = internal
 
-    passes : (k : ℕ) → Parts sep r text start k → is_in_passing_run f pre r text start k ≡ true
-    passes k p =
-        let inside = part_within r text (k + 1) p.after in
-        alone_by_flag k true true p.behind (omega arith) p.here p.before p.after (digit_apart (k + 1) p.after) flagged
+    abbrev many : Bool
+    many = f.integer_consecutive_digit_separator
 
-    belongs : (n : ℕ) → AreGroups sep r text start n → HoldsBetween (is_in_numeral f pre r text start) start n
+    passes : (k : ℕ) → Parts many sep r text start k → is_in_passing_run f pre r text start k ≡ true
+    unfolding run_passes
+    passes k p =
+        let from = p.from in
+        let to = p.to in
+        let behind = p.behind in
+        let low = p.low in
+        let high = p.high in
+        let before = p.before in
+        let after = p.after in
+        let inside = part_within r text to after in
+        let begin : run_begin f text start k ≡ from =
+        begin_of_is (separator_at f text) start from k (omega arith) low
+        (λ i l h. separator_here i (p.run i l (omega arith))) (λ l. digit_apart (from - 1) before) in
+        let stop : run_stop f text k ≡ to =
+        stop_of_is (separator_at f text) k (length text) to (omega arith) (record {
+          low = omega arith;
+          high = omega arith;
+          holds = λ i l h. separator_here i (p.run i (omega arith) h);
+          fails = λ l. digit_apart to after;
+        }) in
+        let there : nat_lt start from ≡ true = lt-ltb start from behind in
+        let may = some_or_one many to from p.alone in
+        rw (begin, stop, there, before, after, flagged, may) refl
+      where
+        some_or_one : (many : Bool) (to from : ℕ) → (many ≡ false → to ≡ from + 1) → (many || (to == from + 1)) ≡ true
+        some_or_one true to from alone = refl
+        some_or_one false to from alone = let e = alone refl in grind (arith, nat_tests)
+
+    belongs : (n : ℕ) → AreGroups many sep r text start n → HoldsBetween (is_in_numeral f pre r text start) start n
     belongs n groups k low high = elim (true_or_false (has_digit r text k)) [
       | inl is ↦ digit_belongs k (digit_at r text k) refl is
       | inr none ↦
           let p = groups k low high none in
-          belongs_separator f pre r text start k (separator_here k p.here) (none_there k none) (passes k p)
+          belongs_separator f pre r text start k (separator_here k (p.run k p.low p.high)) (none_there k none) (passes k p)
     ]
 
-    first_digit : (n : ℕ) → start < n → AreGroups sep r text start n → has_digit r text start ≡ true
+    first_digit : (n : ℕ) → start < n → AreGroups many sep r text start n → has_digit r text start ≡ true
     first_digit n some groups = elim (true_or_false (has_digit r text start)) [
       | inl is ↦ is
-      | inr none ↦ let p = groups start (omega arith) some none in let low = p.behind in absurd (omega arith)
+      | inr none ↦
+          let p = groups start (omega arith) some none in
+          let behind = p.behind in
+          let low = p.low in
+          absurd (omega arith)
     ]
 
     -- groups, and behind them neither a digit nor a separator
-    pub groups_read : (number n : ℕ) → 1 ≤ r → number < 2 ^ 64 → WritesGroups sep r text start number n
+    pub groups_read : (number n : ℕ) → 1 ≤ r → number < 2 ^ 64 → WritesGroups many sep r text start number n
         → has_digit r text n ≡ false → separator_at f text n ≡ false
         → partial f (integer_type 128 false) text ≡ Ok (pos number, n)
     groups_read number n positive low w none apart =
@@ -420,7 +520,7 @@ module _ (f : Format) (r : ℕ) (text : List ℕ) (pre : Bool) (start : ℕ) (s 
         }) positive low
 
     -- groups, and behind them a separator alone, which no digit follows
-    module _ (number n : ℕ) (positive : 1 ≤ r) (low : number < 2 ^ 64) (w : WritesGroups sep r text start number n)
+    module _ (number n : ℕ) (positive : 1 ≤ r) (low : number < 2 ^ 64) (w : WritesGroups many sep r text start number n)
         (here : slice_get text n ≡ Some sep) (inside : n < length text) (behind : has_digit r text (n + 1) ≡ false)
         (apart : separator_at f text (n + 1) ≡ false) where
       no_digit : digit_at r text n ≡ None
@@ -587,20 +687,20 @@ prefix_starts f (c ∷ cs) r decimal valid nil named =
       no_suffix = decimal.no_suffix;
     }) named
 
--- the row behind it
-pub prefix_row : (r : ℕ) (text : List ℕ) (number stop : ℕ) → has_digit r text 2 ≡ true → has_digit r text stop ≡ false
-    → 2 ≤ stop → stop ≤ length text → AreDigitsBetween r text 2 stop → WritesOn r text 0 2 number stop
-    → WritesRow r text 2 number stop
-prefix_row r text number stop first none low high digits writes = record {
-  some = elim (cases_lt 2 stop) [
+-- the row behind a place
+pub first_row : (r : ℕ) (text : List ℕ) (start number stop : ℕ) → has_digit r text start ≡ true
+    → has_digit r text stop ≡ false → start ≤ stop → stop ≤ length text → AreDigitsBetween r text start stop
+    → WritesOn r text 0 start number stop → WritesRow r text start number stop
+first_row r text start number stop first none low high digits writes = record {
+  some = elim (cases_lt start stop) [
     | inl lt ↦ lt
     | inr ge ↦
-        let e : stop ≡ 2 = omega arith in
+        let e : stop ≡ start = omega arith in
         absurd (false≢true (sym none ∙ ap (has_digit r text) e ∙ first))
   ];
   within = high;
   digits = digits;
-  writes = writes 2 (omega arith) (nothing_between r text 2);
+  writes = writes start (omega arith) (nothing_between r text start);
 }
 
 -- a letter that tells a radix

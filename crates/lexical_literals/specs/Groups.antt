@@ -36,24 +36,37 @@ pub record WritesRow (radix : ℕ) (text : List ℕ) (start number stop : ℕ) :
   pub digits : AreDigitsBetween radix text start stop
   pub writes : number ≡ number_between radix text start stop
 
--- At a place stands the separator, with a digit of the radix before it and one behind it, and so behind the start.
-pub record Parts (separator radix : ℕ) (text : List ℕ) (start place : ℕ) : Type 0 where
-  pub behind : start < place
-  pub here : slice_get text place ≡ Some separator
-  pub before : has_digit radix text (place - 1) ≡ true
-  pub after : has_digit radix text (place + 1) ≡ true
+-- all between two places are separators
+abbrev pub AreSeparatorsBetween : ℕ → List ℕ → ℕ → ℕ → Type 0
+AreSeparatorsBetween separator text from to =
+    (place : ℕ) → from ≤ place → place < to → slice_get text place ≡ Some separator
 
--- from a start to before a stop stand digits, and between them such separators
-abbrev pub AreGroups : ℕ → ℕ → List ℕ → ℕ → ℕ → Type 0
-AreGroups separator radix text start stop =
+-- A place lies in a run of separators, with a digit of the radix before the run and one behind it, and so behind the
+-- start. The run is one separator, unless it may be many.
+pub record Parts (many : Bool) (separator radix : ℕ) (text : List ℕ) (start place : ℕ)
+    : Type 0 where
+  pub from : ℕ
+  pub to : ℕ
+  pub behind : start < from
+  pub low : from ≤ place
+  pub high : place < to
+  pub run : AreSeparatorsBetween separator text from to
+  pub before : has_digit radix text (from - 1) ≡ true
+  pub after : has_digit radix text to ≡ true
+  pub alone : many ≡ false → to ≡ from + 1
+
+-- from a start to before a stop stand digits, and between them such runs
+abbrev pub AreGroups : Bool → ℕ → ℕ → List ℕ → ℕ → ℕ → Type 0
+AreGroups many separator radix text start stop =
     (place : ℕ) → start ≤ place → place < stop → has_digit radix text place ≡ false
-    → Parts separator radix text start place
+    → Parts many separator radix text start place
 
 -- Such groups, one digit at least, and the number that they write. The last of them is a digit, unless the stop is one.
-pub record WritesGroups (separator radix : ℕ) (text : List ℕ) (start number stop : ℕ) : Type 0 where
+pub record WritesGroups (many : Bool) (separator radix : ℕ) (text : List ℕ) (start number stop : ℕ)
+    : Type 0 where
   pub some : start < stop
   pub within : stop ≤ length text
-  pub groups : AreGroups separator radix text start stop
+  pub groups : AreGroups many separator radix text start stop
   pub writes : number ≡ number_between radix text start stop
   pub last : has_digit radix text stop ≡ false → has_digit radix text (stop - 1) ≡ true
 

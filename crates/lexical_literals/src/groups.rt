@@ -1,7 +1,8 @@
-// Numbers with separators between their digits, or behind `0x`, `0o` or `0b`: they are read in one pass.
+// Numbers with separators between their digits, or behind `0x`, `0o` or `0b`: they are read in one pass, or in two where more
+// separators than one stand between two digits.
 //
-// What has a run of separators, or none of the digits that it begins with, goes to the reader for all formats.
-ghost use Rattle.std.specs.Prelude.{◌≡◌, ◌+◌, ◌-◌, ◌*◌, ◌<◌, ◌≤◌, ℕ, Bool, IfSome, IsNone, IsTrue, None, Ok, Some, false, is_some, length, nat_lt, pos, slice_get, slice_index, true};
+// What has none of the digits that it begins with, or ends in such a run, goes to the reader for all formats.
+ghost use Rattle.std.specs.Prelude.{◌≡◌, ◌≢◌, ◌+◌, ◌-◌, ◌*◌, ◌<◌, ◌≤◌, ℕ, Bool, IfSome, IsNone, IsTrue, None, Ok, Some, false, is_some, length, nat_lt, pos, slice_get, slice_index, true};
 ghost use Rattle.lexical_util.specs.Ascii.{digit_zero};
 ghost use Rattle.lexical_util.specs.Digit.{digit};
 ghost use Rattle.lexical_util.specs.Number.{integer_type};
@@ -10,7 +11,7 @@ ghost use Rattle.lexical_parse_integer.specs.Affixes.{literal_radix, named_radix
 ghost use Rattle.lexical_parse_integer.specs.Grammar.{partial};
 ghost use Rattle.lexical_parse_integer.specs.Runs.{separator_at};
 ghost use Rattle.lexical_literals.specs.Decimal.{ReadsDecimals, zero_leads};
-ghost use Rattle.lexical_literals.specs.Groups.{AreDigitsBetween, StartsAt, WritesGroups, WritesOn, WritesRow, has_digit};
+ghost use Rattle.lexical_literals.specs.Groups.{AreDigitsBetween, AreSeparatorsBetween, StartsAt, WritesGroups, WritesOn, WritesRow, has_digit};
 
 use crate::decimal::front_of_decimal;
 use crate::punctuated_number;
@@ -117,7 +118,7 @@ fn read_groups(
     requires greatest { radix ≤ 16 }
     requires other { digit radix separator ≡ None }
     requires row { WritesRow radix text.now start first behind }
-    ensures groups { WritesGroups separator radix text.now start result.0 result.1 }
+    ensures groups { WritesGroups false separator radix text.now start result.0 result.1 }
     ensures last { slice_get text.now result.1 ≡ Some separator
         → has_digit radix text.now (result.1 + 1) ≡ false }
 {
@@ -128,8 +129,158 @@ fn read_groups(
     (number, place)
 }
 
+// The place behind the separators in a row from a place on.
+#[inline(always)]
+fn behind_separators(text: &[u8], separator: u8, from: usize) -> usize
+    requires { from ≤ length text.now }
+    ensures forward { from ≤ result }
+    ensures within { result ≤ length text.now }
+    ensures separators { AreSeparatorsBetween separator text.now from result }
+    ensures ends { slice_get text.now result ≢ Some separator }
+{
+    let mut place = from;
+    while place < text.len() && text[place] == separator {
+        place += 1;
+    }
+    place
+}
+
+// The place of the digit behind the run of separators at a place, or that place itself, where no digit stands behind a run.
+#[inline(always)]
+fn behind_run(text: &[u8], separator: u8, radix: u32, place: usize) -> usize
+    requires least { 2 ≤ radix }
+    requires greatest { radix ≤ 16 }
+    requires other { digit radix separator ≡ None }
+    requires within { place ≤ length text.now }
+    ensures forward { place ≤ result }
+    ensures separators { AreSeparatorsBetween separator text.now place result }
+    ensures digit { place < result → has_digit radix text.now result ≡ true }
+    ensures none { place ≡ result → slice_get text.now place ≡ Some separator
+        → has_digit radix text.now (place + 1) ≡ false }
+{
+    let stop = behind_separators(text, separator, place);
+    if has_digit(text, radix, stop) {
+        stop
+    } else {
+        place
+    }
+}
+
+// The number of the digits from a start on, with a run of separators between two of them or none, and where they end: the first
+// row of them is read.
+#[inline(always)]
+fn read_runs(
+    text: &[u8],
+    separator: u8,
+    radix: u32,
+    start: usize,
+    first: u64,
+    behind: usize,
+) -> (u64, usize)
+    requires least { 2 ≤ radix }
+    requires greatest { radix ≤ 16 }
+    requires other { digit radix separator ≡ None }
+    requires row { WritesRow radix text.now start first behind }
+    ensures groups { WritesGroups true separator radix text.now start result.0 result.1 }
+    ensures last { slice_get text.now result.1 ≡ Some separator
+        → has_digit radix text.now (result.1 + 1) ≡ false }
+{
+    let mut number = first;
+    let mut place = behind;
+    loop {
+        let next = behind_run(text, separator, radix, place);
+        if next == place {
+            return (number, place);
+        }
+        (number, place) = read_row(text, radix, number, next);
+    }
+}
+
+// Whether a separator stands at a place, and another behind it.
+#[inline(always)]
+fn has_run(text: &[u8], separator: u8, place: usize) -> bool
+    ensures { result ≡ false → slice_get text.now place ≡ Some separator
+        → slice_get text.now (place + 1) ≢ Some separator }
+{
+    if place >= text.len() || text[place] != separator {
+        return false;
+    }
+    place + 1 < text.len() && text[place + 1] == separator
+}
+
+// The number of groups and where they end, with a separator behind the last of them where the format has those, or 0 bytes
+// where it has no room in 64 bits.
+#[inline(always)]
+fn number_before(
+    text: &[u8],
+    format: &NumberFormat,
+    separator: u8,
+    radix: u32,
+    start: usize,
+    number: u64,
+    stop: usize,
+) -> (u64, usize)
+    requires least { 2 ≤ radix }
+    requires greatest { radix ≤ 16 }
+    requires starts { StartsAt format.now (nat_lt 0 start) radix text.now start }
+    requires own { format.now.digit_separator ≡ Some separator }
+    requires internal { format.now.integer_internal_digit_separator ≡ true }
+    requires groups { WritesGroups format.now.integer_consecutive_digit_separator separator radix
+        text.now start number stop }
+    requires last { slice_get text.now stop ≡ Some separator
+        → has_digit radix text.now (stop + 1) ≡ false }
+    requires alone { slice_get text.now stop ≡ Some separator
+        → slice_get text.now (stop + 1) ≢ Some separator }
+    ensures { 0 < result.1
+        → partial format.now (integer_type 128 false) text.now ≡ Ok (pos result.0, result.1) }
+{
+    if stop >= text.len() {
+        return (number, stop);
+    }
+    if text[stop] != separator {
+        if has_digit(text, radix, stop) {
+            return (0, 0);
+        }
+        return (number, stop);
+    }
+    if format.integer_trailing_digit_separator() {
+        return (number, stop + 1);
+    }
+    (number, stop)
+}
+
+// The number of the digits from a start on, read from there again, and where they end, with runs of separators between them
+// where the format has those. Out of line: few numbers have a run.
+#[inline(never)]
+fn number_of_runs(text: &[u8], format: &NumberFormat, radix: u32, start: usize) -> (u64, usize)
+    requires least { 2 ≤ radix }
+    requires greatest { radix ≤ 16 }
+    requires valid { IsNone (fault format.now) }
+    requires starts { StartsAt format.now (nat_lt 0 start) radix text.now start }
+    requires internal { format.now.integer_internal_digit_separator ≡ true }
+    requires first { has_digit radix text.now start ≡ true }
+    ensures { 0 < result.1
+        → partial format.now (integer_type 128 false) text.now ≡ Ok (pos result.0, result.1) }
+{
+    let Some(separator) = format.digit_separator() else {
+        return (0, 0);
+    };
+    if !format.integer_consecutive_digit_separator() {
+        return punctuated_number(text, format);
+    }
+    let (first, behind) = read_row(text, radix, 0, start);
+    if has_digit(text, radix, behind) {
+        return (0, 0);
+    }
+    let (number, stop) = read_runs(text, separator, radix, start, first, behind);
+    if has_run(text, separator, stop) {
+        return punctuated_number(text, format);
+    }
+    number_before(text, format, separator, radix, start, number, stop)
+}
+
 // The number of such digits and where they end, with a separator behind the last of them where the format has those, or 0
-// bytes where it has no room in 64 bits. A run of separators is left to the reader for all formats.
+// bytes where it has no room in 64 bits. A run of separators is left to another reader.
 #[inline(always)]
 fn number_of_groups(
     text: &[u8],
@@ -153,22 +304,10 @@ fn number_of_groups(
         return punctuated_number(text, format);
     }
     let (number, stop) = read_groups(text, separator, radix, start, first, behind);
-    if stop >= text.len() {
-        return (number, stop);
+    if has_run(text, separator, stop) {
+        return number_of_runs(text, format, radix, start);
     }
-    if text[stop] != separator {
-        if has_digit(text, radix, stop) {
-            return (0, 0);
-        }
-        return (number, stop);
-    }
-    if separator_at(text, stop + 1, format).is_some() {
-        return punctuated_number(text, format);
-    }
-    if format.integer_trailing_digit_separator() {
-        return (number, stop + 1);
-    }
-    (number, stop)
+    number_before(text, format, separator, radix, start, number, stop)
 }
 
 // The number of decimal digits in front, behind whose first row a separator stands. Out of line: most numbers have no group.

@@ -5,11 +5,11 @@ ghost use Rattle.lexical_util.specs.Format.{standard};
 ghost use Rattle.lexical_util.specs.Validity.{fault};
 ghost use Rattle.lexical_parse_integer.specs.Answer.{view_of};
 ghost use Rattle.lexical_parse_integer.specs.Grammar.{complete, complete_if_valid};
-ghost use Rattle.lexical_parse_integer.specs.Head.{sign};
+ghost use Rattle.lexical_parse_integer.specs.Head.{head_of, sign};
 ghost use Rattle.lexical_parse_integer.specs.Plain.{IsPlain};
 
 use crate::algorithm::front::{
-    complete_behind, complete_from_front, completion, front_behind, head_of, is_prefix_alone,
+    Head, complete_behind, complete_from_front, completion, front_behind, head_of, is_prefix_alone,
     sign_of,
 };
 use crate::algorithm::plain::faults::{
@@ -326,16 +326,28 @@ fn complete_many<T: Integer>(bytes: &[u8], format: &NumberFormat) -> Result<T>
 
 // The complete answer under a valid format of any radix without punctuation.
 #[inline(never)]
-#[tactic(auto, using(crate::proofs::plain::DigitsAlone::valid_answer))]
 fn complete_plain<T: Integer>(bytes: &[u8], format: &NumberFormat) -> Result<T>
     requires plain { IsPlain format.now }
     requires valid { IsNone (fault format.now) }
     ensures { view_of T.number result ≡ complete format.now T.TYPE bytes.now }
 {
-    match value_of_plain::<T>(bytes, format) {
-        Some(value) => Ok(value),
-        None => complete_from_front::<T>(bytes, format),
-    }
+    plain_rest::<T>(bytes, format)
+}
+
+// The complete answer behind a head, by a function that clears the room for its `Result` itself.
+#[inline(always)]
+fn behind_answer<T: Integer>(bytes: &[u8], format: &NumberFormat, head: Head) -> Result<T>
+    requires valid { IsNone (fault format.now) }
+    requires head { head_of format.now T.TYPE bytes.now ≡ Ok (record {
+      is_negative = head.is_negative;
+      is_prefixed = head.is_prefixed;
+      is_octal = head.is_octal;
+      start = head.start;
+      radix = head.radix;
+    }) }
+    ensures { view_of T.number result ≡ complete format.now T.TYPE bytes.now }
+{
+    complete_behind::<T>(bytes, format, head)
 }
 
 // The complete answer under a valid format with a separator: the text's head is read once, and a fault there is returned.
@@ -353,30 +365,25 @@ fn complete_separated<T: Integer>(bytes: &[u8], format: &NumberFormat, separator
     } else if is_prefix_alone(bytes, head) {
         return Err(Error::Empty(bytes.len()));
     }
-    complete_behind::<T>(bytes, format, head)
+    behind_answer::<T>(bytes, format, head)
 }
 
-// The complete answer under a valid format with punctuation, by one call.
+// The separator, under a format without a suffix.
 #[inline(always)]
-#[tactic(auto, using(crate::proofs::plain::DigitsAlone::valid_answer))]
-fn complete_other<T: Integer>(bytes: &[u8], format: &NumberFormat) -> Result<T>
-    requires valid { IsNone (fault format.now) }
-    ensures { view_of T.number result ≡ complete format.now T.TYPE bytes.now }
+fn separator_without_suffix(format: &NumberFormat) -> Option<u8>
+    ensures { IfSome result (λ separator. format.now.digit_separator ≡ Some separator) }
 {
-    match format.digit_separator() {
-        Some(separator) if format.base_suffix().is_none() => {
-            if is_parted_otherwise(bytes, separator) {
-                return complete_from_front::<T>(bytes, format);
-            }
-            complete_separated::<T>(bytes, format, separator)
-        }
-        _ => complete_punctuated::<T>(bytes, format),
+    let separator = format.digit_separator()?;
+    if format.base_suffix().is_some() {
+        return None;
     }
+    Some(separator)
 }
 
 /// The integer that the whole text stands for under a valid format, for a text on which `value_if_short` gave up: by one call
 /// for each kind of format, so that a number which `value_if_short` reads pays for none.
 #[inline(always)]
+#[tactic(auto, using(crate::proofs::plain::DigitsAlone::valid_answer))]
 pub(super) fn complete_by_kind<T: Integer>(bytes: &[u8], format: &NumberFormat) -> Result<T>
     requires valid { IsNone (fault format.now) }
     ensures { view_of T.number result ≡ complete format.now T.TYPE bytes.now }
@@ -390,5 +397,11 @@ pub(super) fn complete_by_kind<T: Integer>(bytes: &[u8], format: &NumberFormat) 
     if is_plain(format) {
         return complete_plain::<T>(bytes, format);
     }
-    complete_other::<T>(bytes, format)
+    let Some(separator) = separator_without_suffix(format) else {
+        return complete_punctuated::<T>(bytes, format);
+    };
+    if is_parted_otherwise(bytes, separator) {
+        return complete_from_front::<T>(bytes, format);
+    }
+    complete_separated::<T>(bytes, format, separator)
 }

@@ -1,5 +1,5 @@
 use Rattle.std.proofs.Common.{◌∙◌, arith, sym, true}
-use Rattle.lexical_literals.proofs.GroupedFronts.{part_within, prefix_row, prefix_starts, row_read}
+use Rattle.lexical_literals.proofs.GroupedFronts.{first_row, part_within, prefix_starts, row_read}
 use Rattle.lexical_literals.proofs.groups.number_behind_prefix.Goals as goal
 
 pub read_row-number-requires-clause-within : goal.read_row-number-requires-clause-within
@@ -13,7 +13,7 @@ number_of_groups-requires-clause-starts c =
 
 pub number_of_groups-requires-clause-row : goal.number_of_groups-requires-clause-row
 number_of_groups-requires-clause-row c =
-    prefix_row c.args.radix c.args.text.now c.read_row-number.result.0 c.read_row-number.result.1
+    first_row c.args.radix c.args.text.now 2 c.read_row-number.result.0 c.read_row-number.result.1
     (sym c.has_digit.ensures ∙ c.if-not-has_digit.false) (sym c.has_digit-2.ensures ∙ c.if-has_digit.false)
     c.read_row-number.ensures.forward c.read_row-number.ensures.within c.read_row-number.ensures.digits
     c.read_row-number.ensures.number
@@ -24,7 +24,7 @@ returns-in-None c = λ some.
     (prefix_starts c.args.format.now c.args.text.now c.args.radix c.requires.decimal c.requires.valid c.requires.zero
     c.requires.prefix)
     c.read_row-number.result.0 c.read_row-number.result.1 (omega (arith, c.requires.least)) (omega arith)
-    (prefix_row c.args.radix c.args.text.now c.read_row-number.result.0 c.read_row-number.result.1
+    (first_row c.args.radix c.args.text.now 2 c.read_row-number.result.0 c.read_row-number.result.1
     (sym c.has_digit.ensures ∙ c.if-not-has_digit.false) (sym c.has_digit-2.ensures ∙ c.if-has_digit.false)
     c.read_row-number.ensures.forward c.read_row-number.ensures.within c.read_row-number.ensures.digits
     c.read_row-number.ensures.number)
