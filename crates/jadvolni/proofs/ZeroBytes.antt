@@ -1,6 +1,5 @@
 -- When words of bytes are 0.
-use Rattle.std.proofs.Common.{◌≡◌, ◌∙◌, ◌==◌, ◌<◌, ℕ, Bool, zero, suc, ◌+◌, ◌*◌, ◌&&◌, nat_eq, nat_lt, true, false, List, [], ◌∷◌, ◌++◌, length, get_or, map, refl, ap, ap₂, sym, subst, arith}
-use lib.Pointwise.{pointwise}
+use Rattle.std.proofs.Common.{◌≡◌, ◌∙◌, ◌==◌, ◌<◌, ℕ, Bool, zero, suc, ◌+◌, ◌*◌, ◌&&◌, nat_eq, nat_lt, true, false, List, [], ◌∷◌, ◌++◌, length, get_or, map, refl, ap, ap₂, sym, arith}
 use Rattle.std.proofs.lemmas.Bool.Decides.{nat_tests}
 use Rattle.std.proofs.lemmas.List.{ext_get_or}
 use Rattle.std.proofs.lemmas.List.FromFn.{get_or-map-range_with_len, length-map-range_with_len}
@@ -170,18 +169,20 @@ last_bytes byte kept size =
     ∙ and_assoc (nat_lt byte 8) (are_zeros (at 0 ∷ at 1 ∷ at 2 ∷ at 3 ∷ at 4 ∷ [])) (are_zeros (at 5 ∷ at 6 ∷ at 7 ∷ at 8 ∷ at 9 ∷ at 10 ∷ at 11 ∷ at 12 ∷ []))
     ∙ ap (λ zeros. nat_lt byte 8 && zeros) (in_two_parts (at 0 ∷ at 1 ∷ at 2 ∷ at 3 ∷ at 4 ∷ []) (at 5 ∷ at 6 ∷ at 7 ∷ at 8 ∷ at 9 ∷ at 10 ∷ at 11 ∷ at 12 ∷ []) ∙ ap are_zeros (by_places kept 13 size))
 
--- bytes that are those of an array of zeros are 0
-abbrev pub zeros : ℕ → List ℕ
-zeros zero = []
-zeros (suc count) = 0 ∷ zeros count
+-- a test, and one that is always met
+and_true : (a : Bool) → (a && true) ≡ a
+and_true true = refl
+and_true false = refl
 
-all_zeros : (bytes : List ℕ) → pointwise nat_eq bytes (zeros (length bytes)) ≡ are_zeros bytes
-all_zeros [] = refl
-all_zeros (byte ∷ bytes) = ap (λ b. nat_eq byte 0 && b) (all_zeros bytes)
-
-pub so_many_zeros : (count : ℕ) (bytes : List ℕ) → length bytes ≡ count → pointwise nat_eq bytes (zeros count) ≡ are_zeros bytes
-so_many_zeros count bytes size =
-    subst (λ n. pointwise nat_eq bytes (zeros n) ≡ are_zeros bytes) size (all_zeros bytes)
+-- nine bytes are 0 where eight of them as a word are, and the last
+pub nine_zeros : (bytes : List ℕ) → length bytes ≡ 9 → let at = (λ (k : ℕ). get_or bytes k 0) in
+    (nat_eq (from_le_bytes w64 (at 0 ∷ at 1 ∷ at 2 ∷ at 3 ∷ at 4 ∷ at 5 ∷ at 6 ∷ at 7 ∷ [])) 0 && nat_eq (at 8) 0)
+    ≡ are_zeros bytes
+nine_zeros bytes size =
+    let at : ℕ → ℕ = λ k. get_or bytes k 0 in
+    ap₂ (λ x y. x && y) (word_of_zeros (at 0) (at 1) (at 2) (at 3) (at 4) (at 5) (at 6) (at 7)) (sym (and_true (nat_eq (at 8) 0)))
+    ∙ in_two_parts (at 0 ∷ at 1 ∷ at 2 ∷ at 3 ∷ at 4 ∷ at 5 ∷ at 6 ∷ at 7 ∷ []) (at 8 ∷ [])
+    ∙ ap are_zeros (by_places bytes 9 size)
 
 -- a byte below 8 that has none of three bits is 0
 pub no_bits : (n : ℕ) → nat_lt n 8 ≡ true → has_bit 1 n ≡ false → has_bit 2 n ≡ false → has_bit 4 n ≡ false → n ≡ 0

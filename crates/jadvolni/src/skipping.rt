@@ -100,8 +100,9 @@ pub extern "C" fn jadvolni_parse_table_skipping(
     let Some(dialect) = dialect_of(table, columns.len()) else {
         return not_read(INVALID_TABLE, 0);
     };
-    if let Some(wrong) = wrong_column(columns, rows) {
-        return not_read(wrong.status, wrong.column);
+    let (status, column) = wrong_column(columns, rows);
+    if status != 0 {
+        return not_read(status, column);
     }
     skipped_outcome(read_part_skipping(
         text,

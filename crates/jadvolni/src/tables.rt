@@ -1,6 +1,6 @@
 //! Tables, as C reads them: each column into an array of its own.
 
-ghost use Rattle.std.specs.Prelude.{◌≡◌, length};
+ghost use Rattle.std.specs.Prelude.{◌≡◌, ◌≢◌, None, Some, length};
 ghost use Rattle.jadvolni.specs.FormatFields.{are_zeros, flag};
 ghost use Rattle.jadvolni.specs.Tables.{cell_place, cell_status, dialect_of, layout_of, outcome_of, refused, table_call, table_effect, wrong_column};
 
@@ -25,11 +25,13 @@ pub struct TableFields<'a> {
     pub widths: &'a [usize],
 }
 
-// Whether the bytes that are kept for later versions are 0.
+// Whether the bytes that are kept for later versions are 0: all but the last as a word.
 fn are_zeros(bytes: [u8; 9]) -> bool
     ensures { result ≡ are_zeros bytes }
 {
-    bytes == [0; 9]
+    let [a, b, c, d, e, f, g, h, last] = bytes;
+    let word = u64::from_le_bytes([a, b, c, d, e, f, g, h]);
+    (word == 0) & (last == 0)
 }
 
 // How the cells of a row are found, where a table has so many columns, if there is a way.
@@ -136,20 +138,23 @@ fn outcome_of(answer: Result<Table, TableError>) -> TableOutcome
     }
 }
 
-// What is answered of the first column that can't be read, if `rows` rows are asked for. Two calls ask it, once each.
+// The status of the first column that can't be read, if `rows` rows are asked for, and its number; or the status 0. Two calls ask
+// it, once each.
 #[inline(never)]
-pub(crate) fn wrong_column(columns: &[ColumnFields<'_>], rows: usize) -> Option<TableOutcome>
-    ensures { result ≡ wrong_column rows 0 columns.now }
+pub(crate) fn wrong_column(columns: &[ColumnFields<'_>], rows: usize) -> (u32, usize)
+    ensures wrong { result.0 ≢ 0 → wrong_column rows 0 columns.now
+        ≡ Some (refused result.0 result.1) }
+    ensures none { result.0 ≡ 0 → wrong_column rows 0 columns.now ≡ None }
 {
     let mut index = 0;
     while index < columns.len() {
         let status = columns[index].status(rows);
         if status != 0 {
-            return Some(refused(status, index));
+            return (status, index);
         }
         index += 1;
     }
-    None
+    (0, index)
 }
 
 /// Reads the table of a text, or of a part of one, each column into an array of its own.
@@ -169,8 +174,9 @@ pub extern "C" fn jadvolni_parse_table(
     let Some(dialect) = dialect_of(table, columns.len()) else {
         return refused(INVALID_TABLE, 0);
     };
-    if let Some(wrong) = wrong_column(columns, rows) {
-        return wrong;
+    let (status, column) = wrong_column(columns, rows);
+    if status != 0 {
+        return refused(status, column);
     }
     outcome_of(read_columns_part(text, is_last, &dialect, &options::STANDARD, rows, columns))
 }

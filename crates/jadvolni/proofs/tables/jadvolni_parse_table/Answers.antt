@@ -1,8 +1,9 @@
-use Rattle.std.proofs.Common.{◌∙◌, sym}
+use Rattle.std.proofs.Common.{◌≡◌, arith}
+use Rattle.std.proofs.lemmas.Bool.Decides.{nat_tests}
 use Rattle.jadvolni.proofs.TableColumns.{all_usable}
 use Rattle.jadvolni.proofs.tables.jadvolni_parse_table.Goals as goal
 
 pub read_columns_part-requires : goal.read_columns_part-requires
-read_columns_part-requires c = record {
-  usable = all_usable c.args.rows 0 c.args.columns.now (sym c.wrong_column.ensures ∙ c.in_default-wrong_column.is);
-}
+read_columns_part-requires c =
+    let fine : c.wrong_column-status.result.0 ≡ 0 = grind (arith, nat_tests) in
+    record { usable = all_usable c.args.rows 0 c.args.columns.now (c.wrong_column-status.ensures.none fine) }
