@@ -1,11 +1,11 @@
 -- When words of bytes are 0.
-use Rattle.std.proofs.Common.{◌≡◌, ◌∙◌, ◌==◌, ◌<◌, ℕ, Bool, zero, suc, ◌+◌, ◌*◌, ◌&&◌, nat_eq, nat_lt, true, false, List, [], ◌∷◌, ◌++◌, length, get_or, map, refl, ap, ap₂, sym, arith}
+use Rattle.std.proofs.Common.{◌≡◌, ◌∙◌, ◌==◌, ◌<◌, ℕ, Bool, zero, suc, ◌+◌, ◌*◌, ◌%◌, ◌&&◌, cond, nat_eq, nat_lt, true, false, List, [], ◌∷◌, ◌++◌, length, get_or, map, replicate, refl, ap, ap₂, sym, arith}
+use lib.Lanes.{mask_l, top, zip2}
 use Rattle.std.proofs.lemmas.Bool.Decides.{nat_tests}
 use Rattle.std.proofs.lemmas.List.{ext_get_or}
 use Rattle.std.proofs.lemmas.List.FromFn.{get_or-map-range_with_len, length-map-range_with_len}
-use Rattle.std.proofs.lemmas.Nat.{and_le_l, and_le_r}
-use Rattle.std.specs.Int.Bits.{bit_or, or_add_and}
-use Rattle.std.specs.Int.{from_le_bytes, w16, w32, w64}
+use Rattle.std.proofs.lemmas.Simd.{bitmask_splat}
+use Rattle.std.specs.Int.{from_le_bytes, w8, w16, w32, w64}
 use Rattle.std.specs.List.{range_with_len}
 use Rattle.jadvolni.specs.FormatFields.{are_zeros, has_bit}
 
@@ -103,14 +103,6 @@ word_of_x a b c d sa sb sc same =
     let at_c = byte_of c r3 120 0 sc (omega arith) (omega (arith, at_b.1)) in
     record { radix = at_a.0; separator = at_b.0; prefix = at_c.0; suffix = omega (arith, at_c.1) }
 
--- two numbers have no bit where both are 0
-or_is_zero : (a b : ℕ) → nat_eq (bit_or a b) 0 ≡ (nat_eq a 0 && nat_eq b 0)
-or_is_zero a b =
-    let sum = or_add_and a b in
-    let below = and_le_l a b in
-    let under = and_le_r a b in
-    grind (arith, nat_tests)
-
 -- a test of two, and one behind them
 and_assoc : (a b c : Bool) → ((a && b) && c) ≡ (a && (b && c))
 and_assoc true b c = refl
@@ -131,16 +123,33 @@ by_places xs n size =
     ext_get_or 0 (map at (range_with_len 0 n)) xs (many ∙ sym size)
     (λ i below. get_or-map-range_with_len at 0 n i i 0 (omega arith) (omega arith))
 
--- three bytes and thirteen are 0 where the two words of these are
-pub words_of_zeros : (a b c : ℕ) (rest : List ℕ) → length rest ≡ 13 → let at = (λ (k : ℕ). get_or rest k 0) in
-    nat_eq (bit_or (from_le_bytes w64 (a ∷ b ∷ c ∷ at 0 ∷ at 1 ∷ at 2 ∷ at 3 ∷ at 4 ∷ []))
-    (from_le_bytes w64 (at 5 ∷ at 6 ∷ at 7 ∷ at 8 ∷ at 9 ∷ at 10 ∷ at 11 ∷ at 12 ∷ []))) 0 ≡ are_zeros (a ∷ b ∷ c ∷ rest)
-words_of_zeros a b c rest size =
+-- a number whose lowest bit is a test, and one whose lowest bit is set
+lowest_bit : (test : Bool) (n m : ℕ) → nat_eq (cond test 1 0 + 2 * n) (1 + 2 * m) ≡ (test && nat_eq n m)
+lowest_bit true n m = grind (arith, nat_tests)
+lowest_bit false n m = grind (arith, nat_tests)
+
+-- a number of bits, all of which are set
+abbrev all_bits : ℕ → ℕ
+all_bits zero = 0
+all_bits (suc count) = 1 + 2 * all_bits count
+
+-- bytes are 0 where each sets its bit
+all_set : (bytes : List ℕ) → nat_eq (mask_l (map (λ byte. nat_eq byte 0) bytes)) (all_bits (length bytes)) ≡ are_zeros bytes
+all_set [] = refl
+all_set (byte ∷ bytes) =
+    lowest_bit (nat_eq byte 0) (mask_l (map (λ byte. nat_eq byte 0) bytes)) (all_bits (length bytes))
+    ∙ ap (λ test. nat_eq byte 0 && test) (all_set bytes)
+
+-- three bytes and thirteen are 0 where each of sixteen lanes is
+pub lanes_of_zeros : (a b c : ℕ) (rest : List ℕ) → length rest ≡ 13 → let at = (λ (k : ℕ). get_or rest k 0) in
+    let lanes = a ∷ b ∷ c ∷ at 0 ∷ at 1 ∷ at 2 ∷ at 3 ∷ at 4 ∷ at 5 ∷ at 6 ∷ at 7 ∷ at 8 ∷ at 9 ∷ at 10 ∷ at 11 ∷ at 12 ∷ [] in
+    nat_eq (mask_l (map (top 7) (zip2 (λ x y. cond (nat_eq x y) 255 0) lanes (replicate 16 0))) % 18446744073709551616) 65535
+    ≡ are_zeros (a ∷ b ∷ c ∷ rest)
+lanes_of_zeros a b c rest size =
     let at : ℕ → ℕ = λ k. get_or rest k 0 in
-    or_is_zero (from_le_bytes w64 (a ∷ b ∷ c ∷ at 0 ∷ at 1 ∷ at 2 ∷ at 3 ∷ at 4 ∷ [])) (from_le_bytes w64 (at 5 ∷ at 6 ∷ at 7 ∷ at 8 ∷ at 9 ∷ at 10 ∷ at 11 ∷ at 12 ∷ []))
-    ∙ ap₂ (λ x y. x && y) (word_of_zeros a b c (at 0) (at 1) (at 2) (at 3) (at 4))
-    (word_of_zeros (at 5) (at 6) (at 7) (at 8) (at 9) (at 10) (at 11) (at 12))
-    ∙ in_two_parts (a ∷ b ∷ c ∷ at 0 ∷ at 1 ∷ at 2 ∷ at 3 ∷ at 4 ∷ []) (at 5 ∷ at 6 ∷ at 7 ∷ at 8 ∷ at 9 ∷ at 10 ∷ at 11 ∷ at 12 ∷ [])
+    let lanes = a ∷ b ∷ c ∷ at 0 ∷ at 1 ∷ at 2 ∷ at 3 ∷ at 4 ∷ at 5 ∷ at 6 ∷ at 7 ∷ at 8 ∷ at 9 ∷ at 10 ∷ at 11 ∷ at 12 ∷ [] in
+    ap (λ mask. nat_eq mask 65535) (bitmask_splat w8 nat_eq lanes 16 0 refl (omega arith))
+    ∙ all_set lanes
     ∙ ap (λ xs. are_zeros (a ∷ b ∷ c ∷ xs)) (by_places rest 13 size)
 
 -- two bytes as a number are below 8 where the first is, and the second is 0

@@ -6,6 +6,7 @@ ghost use Rattle.lexical_util.specs.Ascii.{letter_x};
 ghost use Rattle.jadvolni.specs.FormatFields.{are_zeros, flag};
 
 use crate::format::FormatFields;
+use std::simd::prelude::*;
 
 // The first eight bytes as a word: the radix, punctuation and its case, and which digits are required.
 #[inline(always)]
@@ -114,14 +115,14 @@ pub(crate) fn asks_for_no_signs(fields: &FormatFields) -> bool
 
 // Whether no literal prefix and no byte 0 is asked for, and nothing that is unknown: the last sixteen bytes.
 #[inline(always)]
-#[tactic(auto, using(crate::proofs::ZeroBytes::words_of_zeros))]
+#[tactic(auto, using(crate::proofs::ZeroBytes::lanes_of_zeros))]
 pub(crate) fn asks_for_no_literals(fields: &FormatFields) -> bool
     ensures { result ≡ (are_zeros (
         fields.now.literal_prefixes ∷ fields.now.literal_octal_zero
         ∷ fields.now.nul_is_punctuation ∷ fields.now.reserved)) }
 {
     let [a, b, c, d, e, f, g, h, i, j, k, l, m] = fields.reserved;
-    let third = u64::from_le_bytes([
+    let last = u8x16::from_array([
         fields.literal_prefixes,
         fields.literal_octal_zero,
         fields.nul_is_punctuation,
@@ -130,7 +131,14 @@ pub(crate) fn asks_for_no_literals(fields: &FormatFields) -> bool
         c,
         d,
         e,
+        f,
+        g,
+        h,
+        i,
+        j,
+        k,
+        l,
+        m,
     ]);
-    let fourth = u64::from_le_bytes([f, g, h, i, j, k, l, m]);
-    third | fourth == 0
+    last.simd_eq(u8x16::splat(0)).to_bitmask() == 0xFFFF
 }
