@@ -147,19 +147,6 @@ fn value_from_nine<T: Integer>(digits: &[u8], is_negative: bool) -> Option<T>
     value_of_blocks::<T>(digits, 8, is_negative)
 }
 
-// The value of five digits and more. Out of line, so that fewer need no stack frame.
-#[inline(never)]
-fn value_from_five<T: Integer>(digits: &[u8], is_negative: bool) -> Option<T>
-    requires some { 4 < length digits.now }
-    requires minus { IsTrue is_negative → IsTrue T.TYPE.is_signed }
-    ensures { IfSome result (λ value. StandsFor T.TYPE 16 is_negative digits.now (T.number value)) }
-{
-    if digits.len() <= 8 {
-        return value_to_eight::<T>(digits, is_negative);
-    }
-    value_from_nine::<T>(digits, is_negative)
-}
-
 /// The value of hexadecimal digits, where the type surely has room for so many, with a minus where `is_negative`. Each
 /// range of lengths ends on its own, so that no text pays for what another one needs. Out of line, so that decimal texts
 /// don't either.
@@ -169,8 +156,12 @@ pub fn value_of_nibbles<T: Integer>(digits: &[u8], is_negative: bool) -> Option<
     requires minus { IsTrue is_negative → IsTrue T.TYPE.is_signed }
     ensures { IfSome result (λ value. StandsFor T.TYPE 16 is_negative digits.now (T.number value)) }
 {
-    if digits.len() <= 4 {
+    let n = digits.len();
+    if n <= 4 {
         return value_to_four::<T>(digits, is_negative);
     }
-    value_from_five::<T>(digits, is_negative)
+    if n <= 8 {
+        return value_to_eight::<T>(digits, is_negative);
+    }
+    value_from_nine::<T>(digits, is_negative)
 }
