@@ -73,8 +73,8 @@ CALLS := $(EXPORTS) $(addsuffix _part,$(filter %_column,$(EXPORTS))) \
 PAGES = $(DESTDIR)$(MANDIR)/man3
 TO = $(DESTDIR)$(LIBDIR)
 
-# Refused are paths that are empty or relative, as `~/.local` where the shell doesn't expand it, and those with characters
-# that have a meaning to sed, a shell or pkg-config.
+# Refused are paths that are empty or relative, as `~/.local` where the shell doesn't expand it, and those with
+# characters that have a meaning to sed, a shell or pkg-config.
 STRANGE := " ' ` \ | & $$ \#
 # Characters that a shell interprets within double quotes.
 READ := " ` \ $$
