@@ -15,7 +15,7 @@ help:
 	@echo "make TARGET, where TARGET is"
 	@awk -F ':.*## ' '/^[a-z-]+:.*## / { printf "  %-18s %s\n", $$1, $$2 }' $(MAKEFILE_LIST)
 
-# What needs the toolchain fails at once, and with a sentence, where there is none.
+# Without a toolchain, targets that need one fail at once, with a message.
 toolchain:
 	@RT="$(RT)" tools/build.sh
 
@@ -26,7 +26,7 @@ lexint: $(PROGRAM) ## proves and builds the program, as crates/lexint/out/lexint
 
 jad: $(FOR_SHELLS) ## proves and builds the program for shells, as crates/jad/out/jad
 
-# What is said on the way goes to standard error: standard output is the program's alone.
+# Messages of the build go to standard error: standard output is the program's alone.
 $(PROGRAM): $(call SOURCES,lexint)
 $(FOR_SHELLS): $(call SOURCES,jad)
 $(COUNTED): $(call SOURCES,calls)
@@ -96,7 +96,7 @@ check-languages: $(PROGRAM) build/libjadvolni.so ## compares the formats of lang
 	@python3 tools/check_languages.py $(LANGUAGES)
 	@$(if $(LANGUAGES),,python3 tools/check_literals.py)
 
-# What the fuzz run asks for: the seed that a run before has printed, and how many lines.
+# How many lines the fuzz run tries. SEED repeats an earlier run, which printed it.
 SEED ?=
 LINES ?= 200000
 
@@ -107,13 +107,13 @@ fuzz: $(PROGRAM) ## compares the program with a reference implementation of the 
 fuzz-edges: $(PROGRAM) ## the same for each length, limit of a type and place of a separator: 3 million lines
 	@python3 tools/fuzz.py --edges
 
-# What it is asked: make fuzz-tables TABLES="--tables 1000000 --seed 1", or TABLES="--all --longest 6".
+# Its options: make fuzz-tables TABLES="--tables 1000000 --seed 1", or TABLES="--all --longest 6".
 TABLES ?=
 
 fuzz-tables: $(LIBRARIES) ## compares tables read by the C call with a slow reader: random ones, or all short texts
 	@CC=$(CC) tests/tables/compare.py $(TABLES)
 
-# What bench/run.py is asked: make bench BENCH="--rounds 50 --no-counts".
+# Options of bench/run.py: make bench BENCH="--rounds 50 --no-counts".
 BENCH ?=
 
 bench: | toolchain ## measures the parsers beside others, and writes bench/results.tsv and docs/SPEED.md

@@ -5,8 +5,8 @@
 
 A column has 1,000,000 numbers of u64, a line feed after each. The C call and a loop of
 std::from_chars take turns in one run, so that their ratio holds on a busy machine too; the others
-have runs of their own. Of each the least time counts, and of those two that of four links, each of
-which has its code sixteen bytes further on. All have to read the same numbers before their time
+have runs of their own. The least time of each counts. The two are linked four times, sixteen bytes
+apart, since alignment changes a loop's time. All have to read the same numbers before their time
 counts. It needs the library of `make lib`, or that which JADVOLNI_LIBRARY names, a C++ compiler and
 Python's headers; rustc and NumPy are taken where they are there. It writes bench/columns.tsv and a
 table of docs/SPEED.md, and prints what it sees. Against another built checkout it writes nothing:

@@ -15,7 +15,7 @@ PART = r"(<!-- measured: {} writes this -->\n)(?s:.*?)(<!-- end of what was meas
 
 
 def need(*programs: str) -> None:
-    """Ends the script, with a sentence, where it needs a program that isn't there."""
+    """Ends the script with a message if a program that it needs isn't installed."""
     lacking = [name for name in programs if not shutil.which(name)]
     if lacking:
         sys.exit(f"bench: it needs {', '.join(lacking)}")
@@ -33,14 +33,14 @@ def instructions(words: list[str], path: str = os.devnull) -> int:
 
 
 def positive(word: str) -> int:
-    """How much a command line asks for: nothing can't be measured."""
+    """A number of the command line, which has to be at least 1."""
     if int(word) < 1:
         raise ValueError
     return int(word)
 
 
 def options(about: str, rounds: int) -> argparse.ArgumentParser:
-    """The options that all scripts have: how often each reads, and what its texts come from."""
+    """The options that all scripts have: the number of rounds, and the seed of the texts."""
     parser = argparse.ArgumentParser(
         description=about, formatter_class=argparse.RawDescriptionHelpFormatter)
     parser.add_argument("--rounds", type=positive, default=rounds, help="how often a text is read")
@@ -98,7 +98,7 @@ def table(head: list[str], rows: list[list[str]]) -> list[str]:
 
 
 def put(path: str, text: str) -> None:
-    """Writes a file. Where that fails, the one of before stays."""
+    """Writes a file. If that fails, the old one stays."""
     with open(f"{path}.new", "w", encoding="utf-8") as file:
         file.write(text)
     os.replace(f"{path}.new", path)

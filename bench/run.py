@@ -4,8 +4,8 @@
     bench/run.py [--rounds N] [--seed N] [--small N] [--large N] [--no-counts]
 
 Every peer reads the same texts in one run, in turn: of each the least time counts, with that of an
-empty loop taken off. A loop's time hangs on where it stands, so that the driver is linked four
-times, each time sixteen bytes further on, and the least of all counts. Four more have each of our
+empty loop taken off. A loop's time depends on its alignment, so the driver is linked four
+times, sixteen bytes apart, and the least of all counts. Four more have each of our
 calls at twenty places. There are two sizes of each set: 4,096 texts, whose branches a processor
 learns, and 60,000, whose it doesn't. Where callgrind is installed, instructions are counted too. It
 writes bench/results.tsv, bench/results.svg and the table of docs/SPEED.md, and prints the table.

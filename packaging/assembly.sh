@@ -3,8 +3,8 @@
 #
 #     packaging/assembly.sh jadvolni.S VERDICT
 #
-# The toolchain's clang makes the archive out of a module. Here it makes assembly of that module too.
-# That has to give the code and the constants of the archive again.
+# The toolchain's clang compiles a module to the archive. Here it also compiles that module to assembly,
+# which has to assemble to the archive's code and constants.
 set -eu
 [ $# = 2 ] || { echo "usage: packaging/assembly.sh jadvolni.S VERDICT" >&2; exit 2; }
 cd "$(dirname "$0")/.."
@@ -14,7 +14,8 @@ kit=$(dirname "$(dirname "$(readlink -f "$(command -v "${RT:-rt}")")")")
 work=$(mktemp -d)
 trap 'rm -rf "$work"' EXIT
 
-# The toolchain by links, but for a clang that is called twice, and what looks for it from its own place.
+# A toolchain of links, but for a clang that also writes assembly, and for rt and rtlib.py, which look for the
+# toolchain beside themselves.
 mkdir -p "$work/kit/bin" "$work/kit/toolchain/bin"
 for path in "$kit"/* "$kit"/bin/* "$kit"/toolchain/* "$kit"/toolchain/bin/*; do
     link=$work/kit/${path#"$kit"/}
@@ -33,7 +34,7 @@ chmod 755 "$work/kit/toolchain/bin/clang"
 cmp crates/jadvolni/out/libjadvolni.a "$archive"
 grep '^logic=proved' "$work/log" > "$verdict"
 
-# Instructions, but for how padding is written, and what isn't code.
+# An object's instructions without padding, which can be encoded in several ways, and its constants.
 code_of() {
     objdump -drw --no-show-raw-insn "$1" | grep -v -e nop -e 'file format' -e 'xchg *%ax,%ax'
     objdump -sr "$1" | awk '/^Contents of|^RELOCATION/ { there = /\.rodata/ } there'
@@ -44,7 +45,7 @@ code_of "$work/jadvolni.o" > "$work/wanted"
 code_of "$work/assembled.o" | cmp - "$work/wanted"
 [ "$(wc -l < "$work/wanted")" -gt 1000 ]
 
-# Another assembler pads otherwise, so what cc makes is held to the test vectors.
+# cc's assembler may pad in another way, so its result is run over the test vectors instead.
 cc -shared -nostdlib "$work/jadvolni.S" -o "$work/lib.so"
 python3 tools/c_calls.py "$work/lib.so"
 mv "$work/jadvolni.S" "$target"

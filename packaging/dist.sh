@@ -1,13 +1,13 @@
 #!/bin/sh
 # What `make dist` does: writes dist/, the archives of a release, from a clean tree at a commit.
 #
-#     packaging/dist.sh [check]    check: only looks whether it can, before anything is built
+#     packaging/dist.sh [check]    check: only checks that it can, before anything is built
 #
-# The Makefile has proved and built what goes into them. What an archive needs and this machine
-# doesn't have leaves that archive out, with a sentence. Two runs at one commit give the same bytes.
+# The Makefile has proved and built what goes into them. If this machine lacks what an archive needs,
+# that archive is left out, with a message. Two runs at one commit give the same bytes.
 set -eu
 export LC_ALL=C TZ=UTC PYTHONDONTWRITEBYTECODE=1 PIP_DISABLE_PIP_VERSION_CHECK=1
-unset CPPFLAGS INCLUDEDIR LIBDIR MANDIR MAKEFLAGS # which would lay out other archives
+unset CPPFLAGS INCLUDEDIR LIBDIR MANDIR MAKEFLAGS # which would change the archives
 umask 022
 case $* in '' | check) ;; *) echo "usage: packaging/dist.sh [check]" >&2; exit 2 ;; esac
 cd "$(dirname "$0")/.."
@@ -46,11 +46,11 @@ work=$(mktemp -d)
 trap 'rm -rf "$work"' EXIT
 rm -rf dist
 mkdir dist
-unlinked() { # PAGE: a page of the sources for a package, which lacks where its links lead
+unlinked() { # PAGE: a page without its links to files that a package lacks
     sed 's,](docs/,](../../docs/,g; s,\[\([^]]*\)\](\.\./\.\./\([^)#]*/\)\1[^)]*),`\2\1` of the sources,g
         s,\[\([^]]*\)\](\.\./\.\./\([^)#]*\)[^)]*),\1 (`\2` of the sources),g; s,\[\([^]]*\)\]([^)]*),\1,g' "$1"
 }
-packed() { # FILE FOLDER..: a tarball of folders of $work/tree, of one time and one owner
+packed() { # FILE FOLDER..: a tarball of folders of $work/tree, whose files have one time and one owner
     file=$1
     shift
     tar -C "$work/tree" --sort=name --owner=0 --group=0 --numeric-owner --mode=u=rwX,go=rX --mtime="@$SOURCE_DATE_EPOCH" \

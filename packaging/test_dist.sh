@@ -13,7 +13,7 @@ has_archives() { ls "$2"/*."$1" > /dev/null 2>&1; } # KIND FOLDER
 [ -f dist/SHA256SUMS ] || { echo "make test-dist: there is no dist/SHA256SUMS; make dist writes it" >&2; exit 1; }
 (cd dist && sha256sum --quiet -c SHA256SUMS)
 
-# Said first, so that nobody learns it from the end of a long run.
+# Printed first, and not only at the end of a long run.
 lacking=''
 has_archives deb dist || lacking=", dist/*.deb (make dist writes them where debhelper and dh-python are)"
 has_archives crate dist || lacking="$lacking, dist/*.crate (make dist writes them where cargo is)"
@@ -29,7 +29,7 @@ fi
 given=$(mktemp -d)
 trap 'rm -rf "$given"' EXIT
 
-# The sources are no clone. Their gate runs as far as it can with a toolchain that only lays out.
+# The gate of the released sources, which are no clone, as far as it runs with an `rt` that only knows `fmt`.
 tar xzf dist/jadvolni-*-sources.tar.gz -C "$given"
 printf '#!/bin/sh\n[ "$1" = fmt ]\n' > "$given/rt"
 chmod 755 "$given/rt"

@@ -1,17 +1,17 @@
 #!/bin/sh
 # Proves and builds a crate and those below it, and says on standard error how far it is.
 #
-#     tools/build.sh CRATE    a program, which is run over its args and no input, or the library for C
-#     tools/build.sh          only fails where there is no toolchain, with a sentence
+#     tools/build.sh CRATE    a program, which is also run with its args and no input, or the library for C
+#     tools/build.sh          only checks that there is a toolchain; if there is none, it says so and fails
 #
-# Crates of which none stands on another are built side by side. What the toolchain says of a crate goes
-# to out/CRATE.log; its last lines are shown where the crate isn't proved.
+# Crates that don't depend on each other are built in parallel. The toolchain's output for a crate goes to
+# out/CRATE.log; its last lines are shown if the crate isn't proved.
 # RT names the toolchain's command, if it isn't `rt`.
 set -eu
 cd "$(dirname "$0")/.."
 rt=${RT:-rt}
 exec 1>&2
-# What runs beside a shell passes over Ctrl-C, so all that began with it is ended by another signal.
+# A script's background jobs ignore Ctrl-C, so TERM ends the whole process group.
 trap 'trap "" TERM; kill 0; exit 130' INT
 command -v "$rt" > /dev/null || {
     echo "there is no \`$rt\` on the PATH: install the Rattle toolchain, or name its command," \
@@ -19,10 +19,10 @@ command -v "$rt" > /dev/null || {
     exit 1
 }
 
-# The crates that one stands on.
+# The crates that a crate depends on.
 below() { sed -n "s/^$1\( [^:]*\)\{0,1\}: *//p" crates.txt; }
 
-# These, each behind those below it, and then itself; some come twice.
+# All crates below a crate, each after those below it, and then the crate itself; some appear twice.
 crates_below() {
     for crate_below in $(below "$1"); do crates_below "$crate_below"; done
     echo "$1"

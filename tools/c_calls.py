@@ -20,7 +20,7 @@ from reference_lines import form_of
 
 TOP = row_data.TOP
 HEADER = os.path.join(TOP, "include", "jadvolni.h")
-BEFORE = 77  # what stands behind the pointer before each call
+BEFORE = 77  # the number that the pointer points to before each call
 
 
 def without_comments(source: str) -> str:
@@ -68,7 +68,7 @@ NUL_BITS = dict(zip(BYTE_FIELDS, map(int, re.findall(r"JADVOLNI_NUL_IS_\w+ (\d)"
 
 
 class Answer(NamedTuple):
-    """What a call answered, and what was then behind the pointer."""
+    """What a call returned, and the number that it left at the pointer."""
 
     status: str
     place: int

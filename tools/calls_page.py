@@ -24,14 +24,14 @@ class Row(NamedTuple):
     """A call, its instructions at the baseline, and those that are kept."""
 
     name: str
-    start: int
+    baseline: int
     now: int
 
     def ratio(self) -> float:
-        return self.now / self.start
+        return self.now / self.baseline
 
     def is_slower(self) -> bool:
-        return self.now >= SLOWER * self.start and self.now > self.start + 1
+        return self.now >= SLOWER * self.baseline and self.now > self.baseline + 1
 
 
 class Cause(NamedTuple):
@@ -85,7 +85,8 @@ def cause_of(row: Row, known: list[Cause]) -> Cause:
 def line_of(row: Row) -> str:
     """A line of the table: a bar within a name would part its cells."""
     call, *words = row.name.split(" | ")
-    return f"| `{call}` | `{' '.join(words)}` | {row.start:,} | {row.now:,} | {row.ratio():.2f} |"
+    counts_of = f"{row.baseline:,} | {row.now:,} | {row.ratio():.2f}"
+    return f"| `{call}` | `{' '.join(words)}` | {counts_of} |"
 
 
 def group(cause: Cause, rows: list[Row]) -> list[str]:

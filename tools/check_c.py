@@ -74,7 +74,7 @@ def out_of_line() -> List[str]:
 
 
 def static_library(place: Place) -> str:
-    """It needs nothing, has no data, exports the header's calls, makes those listed and std's."""
+    """It needs nothing, has no data, exports the header's calls, and has the listed functions."""
     needs("nm")
     said = run(["nm", place.library("libjadvolni.a")])
     symbols = re.findall(r"(?m)^\w* +(\w) (core::)?(?:\w+::)*(\w+)", said)

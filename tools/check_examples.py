@@ -39,7 +39,7 @@ class Case(NamedTuple):
 
 
 def adds_up(program: str, front: bytes = b"", words: Words = ()) -> Iterator[Case]:
-    """What a program has to withstand that adds up numbers, each of them behind a front."""
+    """The cases of a program that adds up numbers, each of which stands after `front`."""
     for block in (4096, 65536, 131072):
         # Where a program cuts lines into blocks, it cuts this number in two.
         long = front + b"0" * (block - 5 - len(front)) + b"123456789\n"

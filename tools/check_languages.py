@@ -153,14 +153,14 @@ def number_of(answer: str) -> int | None:
 # ---- comparing
 
 def kind_of(our: int | None, their: int | None, bits: int) -> str | None:
-    """In what two answers differ, by the words of tools/languages.txt. What no type of the language
-    has may be refused there: the type is the caller's."""
+    """How two answers differ: `more` is read here only, `less` there only, `otherwise` as another
+    value. A judge may refuse a number that no type of its language has."""
     if our == their or (their is None and our is not None and our.bit_length() > bits):
         return None
     return "more" if their is None else "less" if our is None else "otherwise"
 
 
-def is_told(group: Group, kind: str, text: str) -> bool:
+def is_listed(group: Group, kind: str, text: str) -> bool:
     """Whether docs/FORMATS.md lists such a difference at a text."""
     return any(re.fullmatch(pattern, text) for pattern in formats_page.patterns(group, kind))
 
@@ -170,34 +170,34 @@ def compared(language: Language, group: Group, name: str, texts: list[str]) -> i
     judge = language.judges[name]
     our, their = ours(group, texts, bool(language.signs)), judge.ask(texts)
     counts: collections.Counter[str] = collections.Counter()
-    untold = []
+    others = []
     for text in texts:
         kind = kind_of(our[text], their[text], language.bits)
-        if kind and not is_told(group, kind, text):
-            their |= judge.ask([text])  # a fault of a neighbour may have taken it along
+        if kind and not is_listed(group, kind, text):
+            their |= judge.ask([text])  # (by itself: an error of another line may have hit it)
             kind = kind_of(our[text], their[text], language.bits)
-        if kind and not is_told(group, kind, text):
-            untold.append(f"  {text}: here {our[text]}, there {their[text]}")
+        if kind and not is_listed(group, kind, text):
+            others.append(f"  {text}: here {our[text]}, there {their[text]}")
         elif kind:
             counts[kind] += 1
     read = sum(value is not None for value in their.values())
     counted = [f"{counts[kind]} {kind}" for kind in formats_page.HEADINGS if counts[kind]]
     print(f"{language.name}: {name} reads {read} of {len(texts)}; differences that FORMATS.md "
-          f"lists: {', '.join(counted) or 'none'}; others: {len(untold)}", flush=True)
-    print("\n".join(untold[:40]), end="\n" if untold else "")
-    return len(untold)
+          f"lists: {', '.join(counted) or 'none'}; others: {len(others)}", flush=True)
+    print("\n".join(others[:40]), end="\n" if others else "")
+    return len(others)
 
 
-def untold_differences(language: Language, group: Group, seed: int, count: int) -> int:
+def other_differences(language: Language, group: Group, seed: int, count: int) -> int:
     """Asks all judges of a language, and counts the differences that FORMATS.md doesn't list."""
     texts = literals(random.Random(f"{seed} {language.name}"), language, count)
-    untold = 0
+    others = 0
     for name, judge in language.judges.items():
         if judge.is_there():
-            untold += compared(language, group, name, texts)
+            others += compared(language, group, name, texts)
         else:
             print(f"{language.name}: {name} isn't on this machine, and was passed over")
-    return untold
+    return others
 
 
 def main() -> int:
@@ -214,11 +214,11 @@ def main() -> int:
         sys.exit("nothing is asked for: " + ", ".join(sorted(set(chosen.languages) - known)))
     made(BUILT[0], "lexint")
     asked = [language for language in ASKED if language.name in (chosen.languages or known)]
-    untold = sum(untold_differences(language, groups[language.name], chosen.seed, chosen.literals)
+    others = sum(other_differences(language, groups[language.name], chosen.seed, chosen.literals)
                  for language in asked)
     unasked = ", ".join(sorted(set(groups) - known))
     print(f"not compared, since nothing is asked for them: {unasked}")
-    return 1 if untold else 0
+    return 1 if others else 0
 
 
 if __name__ == "__main__":

@@ -1,8 +1,8 @@
 #!/bin/sh
 # The gate, `make test`: the toolchain's own gate from nothing, and then what no prover does.
 #
-# Each part is a command. What it says goes to build/PART.log, and its last line is shown: where that
-# begins with `skipped:`, this machine lacks what the part needs. Parts of seconds come first: if one
+# Each part is a command. Its output goes to build/PART.log, whose last line is shown: if that begins
+# with `skipped:`, this machine lacks what the part needs. Parts that take seconds come first: if one
 # fails, no long one begins. The last line counts the parts.
 set -u
 [ $# = 0 ] || { echo "usage: tools/gate.sh" >&2; exit 2; }
@@ -11,7 +11,7 @@ export RT="${RT:-rt}" PYTHONUNBUFFERED=1
 begin=$(date +%s) passed=0 failed=0 skipped=0
 copy=$(mktemp -d)
 trap 'rm -rf "$copy"' EXIT
-# What runs beside a shell passes over Ctrl-C, so all that began with it is ended by another signal.
+# A script's background jobs ignore Ctrl-C, so TERM ends the whole process group.
 trap 'trap "" TERM; kill 0; wait; exit 130' INT
 mkdir -p build
 
@@ -32,7 +32,7 @@ part() { # NAME COMMAND..
     say "$name $ended after $(($(date +%s) - start)) s: $(tail -n 1 "$log")"
 }
 
-# The last line, which the SBOM of the commit quotes. Where a part failed, so does the gate.
+# Prints the last line, which the SBOM of the commit quotes. If a part failed, so does the gate.
 total() {
     echo "$passed parts passed, $failed failed, $skipped skipped" | tee build/gate.log
     if [ -e .git ] && [ -z "$(git status --porcelain)" ]; then git rev-parse HEAD >> build/gate.log; fi
@@ -52,7 +52,7 @@ lint() {
     test -z "$lacking" || echo "skipped: there is no$lacking"
 }
 
-# In the copy `rt fmt` finds nothing to lay out anew, and every edit can be applied.
+# `rt fmt`, run in the copy, changes no file, and every must-fail edit can be applied.
 layout() {
     looked=0 wrong=0
     for crate in crates/*; do
@@ -67,11 +67,11 @@ layout() {
     test "$wrong" = 0
 }
 
-# `rt ci` has to count every crate and every edit. An edit that is refused because a proof names what
-# it took away says nothing of a contract; `rt ci` names most of these, and the rest break off at a
-# record or a module of proofs/.
+# `rt ci` has to count every crate and every must-fail edit. An edit that is refused only because a
+# proof names what it removed tests no contract. `rt ci` reports most of these; the others end with an
+# error at a record or a module of proofs/.
 proofs() {
-    rm -rf build/wasm # what `make wasm` left: crates that `rt ci` finds in no list
+    rm -rf build/wasm # left by `make wasm`: `rt ci` would find crates there that crates.txt doesn't list
     edits=$(find crates/*/must-fail -name '*.edit' | wc -l)
     wanted=$(($(grep -c '^[a-z]' crates.txt) + edits))
     "$RT" ci 2>&1 | tee build/ci.log | grep --line-buffered '^rt: ' >&3
@@ -83,9 +83,9 @@ proofs() {
     tail -n 1 build/ci.log | tee /dev/stderr | grep -qx "$wanted passed, 0 failed"
 }
 
-# `rt ci` leaves the programs that it builds, but no library that another command takes. So what
-# callers need is proved once more and tried in a copy, beside it; libraries that stand built here
-# serve it, since `rt ci` sets them aside and proves all anew.
+# `rt ci` leaves the programs that it builds, but no library that another command can use. So the
+# libraries that callers need are built once more in a copy, in parallel, and the callers run there. The
+# copy starts with the libraries that are built here: `rt ci` sets them aside, and proves all anew.
 in_copy() { # NAME COMMAND..
     name=$1
     shift
@@ -98,13 +98,13 @@ report() { # NAME
     return "$(cat "$copy/$1.status")"
 }
 
-# Both builds of the program, side by side.
+# Both builds of the program, in parallel.
 devices() {
     python3 tools/devices.py crates/lexint/out/lexint &
     python3 tools/devices.py crates/lexint/out/lexint.by-rattle && wait $!
 }
 
-# A crate or a line that a user has changed is named, and stays; what was copied is what stands here.
+# `make vendor` names a crate or a line that a user has changed, and keeps it; its copies equal the originals.
 vendor() {
     user="$copy/a user"
     set -- make -s vendor DEST="$user" WITH="lexical_fields lexical_fixed lexical_formats lexical_laws lexical_literals lexical_tables"
@@ -122,7 +122,7 @@ vendor() {
     test "$(grep '^lexical_' crates.txt | sort)" = "$(sort "$user/crates.txt")"
 }
 
-# (the sources of a release are no clone, and may stand in one of another project)
+# (a release's sources are no clone, but may lie within another project's)
 files() { if [ -e .git ]; then git ls-files -z; else find . \( -name out -o -path ./build \) -prune -o -type f -print0; fi; }
 files | xargs -0 cp --parents -t "$copy"
 part lint lint

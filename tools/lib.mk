@@ -26,7 +26,7 @@ build/libjadvolni.a: $(LIBRARY_SOURCES)
 	@RT="$(RT)" tools/build.sh jadvolni
 	@cp crates/jadvolni/out/libjadvolni.a $@
 
-# What the archive exports, each call behind the version in which it came.
+# What the archive exports: each call, with the version that introduced it.
 EXPORTED = nm -g --defined-only $(1) | LC_ALL=C sort -k 3 | awk -v new=$(basename $(VERSION)) \
     'FILENAME != "-" { came[$$1] = $$2; next } $$2 == "T" { print $$3, $$3 in came ? came[$$3] : new }' packaging/symbols.txt -
 
@@ -34,7 +34,7 @@ symbols: build/libjadvolni.a ## writes packaging/symbols.txt, the calls that the
 	@$(call EXPORTED,$<) > build/symbols.txt
 	@mv build/symbols.txt packaging/symbols.txt
 
-# The versions of the calls, as linkers read them: a program that needs a later library is refused as it starts.
+# The calls' versions for the linker: a program that needs a later library doesn't start with an older one.
 build/symbols.map: build/libjadvolni.a packaging/symbols.txt
 	@$(call EXPORTED,$<) | diff packaging/symbols.txt - || \
 	    { echo "packaging/symbols.txt isn't what the library exports: make symbols writes it anew" >&2; exit 1; }
@@ -52,8 +52,8 @@ build/libjadvolni.so: build/libjadvolni.a build/symbols.map
 wasm: build/jadvolni.wasm ## proves and builds the library for JavaScript, and puts it into bindings/js
 	@cp $< bindings/js
 
-# crates.txt says for which machine a crate is built, so it is built once more in a copy: the first time over what proofs
-# of these sources kept here. Its memory can't grow.
+# crates.txt names a crate's target, so the library is built for WebAssembly in a copy of the tree, with another
+# crates.txt. A new copy takes the proofs that are kept here. The module's memory can't grow.
 build/jadvolni.wasm: $(LIBRARY_SOURCES)
 	@mkdir -p build/wasm
 	@find build/wasm -name out -prune -o -type f -exec rm {} +
@@ -65,18 +65,18 @@ build/jadvolni.wasm: $(LIBRARY_SOURCES)
 	@RT="$(RT)" build/wasm/tools/build.sh jadvolni
 	@cp build/wasm/crates/jadvolni/out/jadvolni.wasm $@
 
-# Each call has a page, which shows jadvolni(3): so `man jadvolni_parse_u64` finds what it looks for.
-# What isn't exported stands in the header alone.
+# Each call has a manual page that includes jadvolni(3), so that `man jadvolni_parse_u64` works: those that the library
+# exports, and then those that only the header has.
 EXPORTS := $(shell cut -d ' ' -f 1 packaging/symbols.txt)
 CALLS := $(EXPORTS) $(addsuffix _part,$(filter %_column,$(EXPORTS))) \
     $(addprefix jadvolni_,parse format_of_radix status_name status_text table_text)
 PAGES = $(DESTDIR)$(MANDIR)/man3
 TO = $(DESTDIR)$(LIBDIR)
 
-# A path that is empty or not from the root, as `~/.local` of a shell that leaves it so, or that sed, a shell or pkg-config
-# reads otherwise would be written wrong.
+# Refused are paths that are empty or relative, as `~/.local` where the shell doesn't expand it, and those with
+# characters that have a meaning to sed, a shell or pkg-config.
 STRANGE := " ' ` \ | & $$ \#
-# What a shell reads within quotes.
+# Characters that a shell interprets within double quotes.
 READ := " ` \ $$
 has = $(strip $(foreach character,$(1),$(findstring $(character),$(2))))
 path = $(if $(if $(filter /%,$(firstword $($(1)))),$(call has,$(STRANGE),$($(1))),no), \
@@ -85,7 +85,7 @@ paths:
 	@: $(foreach name,PREFIX LIBDIR INCLUDEDIR MANDIR,$(call path,$(name)))
 	@: $(if $(call has,$(READ),$(DESTDIR)),$(error DESTDIR=$(DESTDIR): it has to have none of $(READ)))
 
-# What the templates of pkg-config, CMake and man leave open. Everyone may read what is written.
+# Fills in the templates of pkg-config, CMake and man. Everyone may read the files.
 FILL = umask 022; sed -e 's|@PREFIX@|$(PREFIX)|; s|@LIBDIR@|$(LIBDIR)|; s|@INCLUDEDIR@|$(INCLUDEDIR)|' \
     -e 's|@VERSION@|$(VERSION)|; s|@SOVERSION@|$(SOVERSION)|'
 
@@ -113,7 +113,7 @@ uninstall-lib: paths ## removes the library
 	for folder in "$(TO)/cmake/jadvolni" "$(DESTDIR)$(DOCDIR)"; do \
 	    [ ! -d "$$folder" ] || rmdir --ignore-fail-on-non-empty "$$folder" || exit 1; done
 
-# Without a compiler of C there is no shared library; check_c.py says what it skips then.
+# Without a C compiler there is no shared library, and check_c.py reports what it skips.
 test-c: build/libjadvolni.a $(SHARED) ## tests the callers in C, C++, Rust and Python; a part of the gate
 	@python3 tools/check_c.py
 
@@ -124,7 +124,7 @@ NODE_FLAGS = $(shell node -p 'parseInt(process.versions.node) < 24 ? "--experime
 test-js: $(if $(NODE),wasm) ## tests the calls of JavaScript; a part of the gate
 	@$(if $(NODE),timeout 900 node $(NODE_FLAGS) --test tests/js/*.test.js,echo "skipped: there is no node from 20 on")
 
-# The page to try a format on, with what it takes, as it is served and released.
+# The page to try a format on, with all files that it needs, as it is served and released.
 PORT ?= 8000
 build/page: build/jadvolni.wasm docs/try/index.html docs/GRAMMAR.md packaging/grammar.awk $(LICENCES)
 	@rm -rf $@
@@ -135,12 +135,12 @@ build/page: build/jadvolni.wasm docs/try/index.html docs/GRAMMAR.md packaging/gr
 serve: build/page ## serves the page to try a format on, to this machine alone: PORT=8000
 	@python3 -u -m http.server --bind 127.0.0.1 --directory build/page $(PORT)
 
-# What the page needs to be seen: a browser, and what drives it.
+# The page's test needs a browser, and Node to drive it.
 BROWSER := $(if $(NODE),$(shell command -v chromium 2>/dev/null))
 test-page: $(if $(BROWSER),build/page) ## has Chromium show the page every test vector; a part of the gate
 	@$(if $(BROWSER),node docs/try/src/join.mjs --check && node --test tests/page/*.test.mjs,echo "skipped: there is no chromium, or no node from 20 on to drive it")
 
-# What the random run asks for: the seed that a run before has printed, and how many parses and formats.
+# How many parses and formats the random run tries. SEED repeats an earlier run, which printed it.
 PARSES ?= 1000000
 FORMATS ?= 100000
 

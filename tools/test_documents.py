@@ -194,7 +194,7 @@ class OfCalls(unittest.TestCase):
     """The calls that are slower than at the baseline, and why."""
 
     COUNTS = """# What was counted.
-case\tstart\tkept\tratio
+case\tbaseline\tkept\tratio
 read | u8 | - | "7"\t100\t103\t1.03
 read | u8 | c | "07"\t100\t200\t2.00
 put | u8 | - | "7"*100\t100\t150\t1.50

@@ -248,7 +248,7 @@ bool answer_table(const Case &asked) {
     return true;
 }
 
-// Calls that the library of the start lacks: bench/calls says whether this one has them.
+// Calls that the baseline's library lacks: bench/calls defines HAS_NEW if this one has them.
 #ifdef HAS_NEW
 
 template <class Number>

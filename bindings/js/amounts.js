@@ -5,12 +5,12 @@ import { FormatError } from "./errors.js";
 import { bytesOfFormat, Format, STANDARD } from "./format.js";
 import { FORMAT, named, putFormat } from "./memory.js";
 
-/** What is said of amounts by its name, beside the format of their integer part. */
+/** The options that describe amounts, besides the format of their integer part. */
 export const AMOUNT_FIELDS = ["places", "point", "group", "takes_fewer"];
 
 const faultOf = named("jadvolni_fixed_error");
 
-/** What the integer part looks like: with a byte that may stand between two of its digits, if one was given. */
+/** The format of the integer part: `format`, and if `group` is given, with that byte as a separator between digits. */
 function integerPart(format, group) {
   if (group === undefined || group === null) return format;
   const digit_separator = byteOf("group", group);
@@ -20,14 +20,14 @@ function integerPart(format, group) {
   return new Format({ ...format, digit_separator, integer_internal_digit_separator: true });
 }
 
-/** The byte before the fraction. The library takes 0 for a full stop, so that it can be no point. */
+/** The byte before the fraction. It can't be 0, which the library reads as a full stop. */
 function pointOf(point = ".") {
   const byte = byteOf("point", point);
   if (byte === 0) throw new TypeError("point has to be another byte than 0");
   return byte;
 }
 
-/** How amounts are written, as the library has it: undefined where no places are given. */
+/** The bytes of a `jadvolni_fixed` for these options; undefined if no places are given. */
 export function amountOf(given) {
   const { places, point, group, takes_fewer, format = STANDARD } = given;
   if (places === undefined) {
@@ -41,7 +41,7 @@ export function amountOf(given) {
   bytesOfFormat(format);
   const amount = new Uint8Array(48);
   amount.set(bytesOfFormat(integerPart(format, group)));
-  // (places that are no byte are refused as too many are)
+  // (places beyond a byte become 255, which the library refuses as too many)
   amount.set([pointOf(point), places === (places & 255) ? places : 255, flagOf("takes_fewer", takes_fewer)], 32);
   putFormat(amount);
   const status = faultOf(FORMAT);
@@ -49,5 +49,5 @@ export function amountOf(given) {
   return amount;
 }
 
-/** How many places amounts have that are written so, and the byte that is their point. */
+/** The places and the point of a `jadvolni_fixed`. */
 export const writtenAs = (amount) => ({ point: amount[32], places: amount[33] });

@@ -34,7 +34,7 @@ export function flagOf(name, value = false) {
   throw new TypeError(`${name} has to be true or false, and not ${described(value)}`);
 }
 
-/** What a table has under a name. */
+/** The entry of a map; if there is none, the error lists the names that it has. */
 export function ofTable(table, name, value) {
   const found = table.get(value);
   if (found === undefined) {
@@ -44,8 +44,8 @@ export function ofTable(table, name, value) {
   return found;
 }
 
-/** The own fields that were given for a format, a table, a column or a call, each read once. Others than
- * there are it refuses, and none is taken from a prototype. */
+/** The own fields of an object that describes a format, a table, a column or a call, each read once. It refuses
+ * unknown names, and ignores the prototype. */
 export function ownFields(whose, given, names, field = "field") {
   if (Object.prototype.toString.call(given) !== "[object Object]") {
     throw new TypeError(`the ${field}s of ${whose} have to be an object, and not ${described(given)}`);

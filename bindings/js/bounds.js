@@ -18,7 +18,7 @@ function boundOf(name, given) {
   throw new TypeError(`${name} has to be a safe integer or a bigint, and not ${described(given)}`);
 }
 
-/** The bounds of a type's numbers, if any are given: its ends where none is, or one beyond them. */
+/** The bounds, if any are given, limited to the type: an end without a bound is the type's. */
 export function boundsOf(type, given) {
   if (given.min === undefined && given.max === undefined) return undefined;
   const [least, greatest] = ofTable(ENDS, "type", type);
@@ -36,7 +36,7 @@ const MOST_SHOWN = 40;
 const shownByte = (byte) =>
   byte >= 0x20 && byte < 0x7f ? String.fromCharCode(byte) : `\\x${byte.toString(16).padStart(2, "0")}`;
 
-/** A bound as texts have it: that of amounts has a point. */
+/** A bound as a text would write it: of an amount with its point. */
 function shownBound(bound, amount) {
   const { places, point } = amount === undefined ? { places: 0 } : writtenAs(amount);
   if (places === 0) return String(bound);
@@ -57,9 +57,8 @@ export function outOfBounds(text, { min, max }, amount) {
 const isBeyond = (kind) => kind === "Overflow" || kind === "Underflow";
 
 /**
- * A fault as bounds have it: where all that is wrong is that the type lacks the number, it is out of bounds. The widest
- * type with a sign tells, in which "-5" and "70000" are numbers: `wide` answers what that reads, and `beyond` the fault
- * of a number out of bounds.
+ * The error for a text at fault, if bounds are given. If the text is a number, but not one of the type, as "-5" or
+ * "70000", it is out of bounds: `beyond` makes that error. `wide` reads the text as the widest signed type to see this.
  */
 export function faultBesideBounds(fault, wide, beyond) {
   let kind = "Ok";

@@ -1,4 +1,4 @@
-// The cells of a row: for the names of a header, and for what a fault says of its cell.
+// The cells of a row: for the names of a header, and for the wrong cell in an error.
 
 import { ANSWER, answer, putTableAlone, TABLE } from "./layout.js";
 import * as memory from "./memory.js";
@@ -12,8 +12,8 @@ const WORDS_OF_CELL = 4;
 const oneCell = memory.numberAs(Uint32Array, WORDS_OF_CELL);
 
 /**
- * How many cells the row has that starts at a place of the text, under the table that was put last, and stops at another.
- * Where those from a column on are goes to an array, as far as it has room.
+ * Returns how many cells the row from `start` to `stop` has, under the table that was put last. The places of the cells
+ * from column `first` on go to the array `cells`, as far as it has room.
  */
 function putCells(start, stop, first, cells) {
   const room = BigInt(cells.length / WORDS_OF_CELL);
@@ -21,19 +21,19 @@ function putCells(start, stop, first, cells) {
   return answer[2];
 }
 
-/** Where a cell is that a call has reported, in a row that starts at a place. */
+/** The place and size of a cell in the words that a call wrote, in a row that starts at a place. */
 const cellAt = (words, index, start) => ({
   start: start + words[WORDS_OF_CELL * index],
   size: words[WORDS_OF_CELL * index + 2],
 });
 
-/** Where the cell of a column is, of the row from a place to another in the piece that was read last, before which so
- * many bytes stand; undefined where the row has none. */
+/** The place and size of a column's cell in the row from `start` to `stop` of the last piece, which comes after
+ * `before` bytes of the text; undefined if the row has no such cell. */
 export function cellOfColumn(start, stop, column, before) {
   return putCells(start, stop, column, oneCell) > column ? cellAt(oneCell, 0, before + start) : undefined;
 }
 
-/** Whether a row, with what ends it, is an empty one that is skipped by the table that was put last. */
+/** Whether a row, with its line end, is empty, and the table that was put last skips it. */
 export function isSkipped(row) {
   const size = memory.putBytes(row);
   rowPlace(ANSWER, TEXT, BigInt(size), TABLE, 0n);

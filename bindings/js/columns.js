@@ -14,10 +14,10 @@ import { readRows } from "./rows.js";
 const { ANSWER, COUNT, FORMAT, TEXT } = memory;
 const fieldStart = memory.named("jadvolni_field_start");
 
-export const LONGEST_FIELD = PIECE - 1; // and behind it the separator
+export const LONGEST_FIELD = PIECE - 1; // (a separator follows it)
 const NUMBERS = BigInt(numbersPlace);
 
-// What a column has of tables: it is read as one of a single column then, and its fields are lines.
+// Options that a column shares with tables: with one of them it is read as a table of one column, line by line.
 const OF_TABLES = ["has_returns", "allows_returns", "allows_blanks", "missing"];
 const OF_LINES = [...OF_TABLES, "may_miss", ...AMOUNT_FIELDS];
 
@@ -30,7 +30,7 @@ const TYPES = new Map(
   }),
 );
 
-/** Puts the next piece of a text into memory; how many of its bytes are whole fields. */
+/** Puts the next piece of a text into memory. Returns how many of its bytes are whole fields. */
 function putFields(bytes, start, separator) {
   const size = memory.putBytes(bytes.subarray(start, start + PIECE));
   if (start + size === bytes.length) return BigInt(size);
@@ -41,7 +41,7 @@ function putFields(bytes, start, separator) {
   return whole;
 }
 
-/** The options of a column, of which separator and format may be given in turn. */
+/** The options of a column: by their names, or separator and format as arguments. */
 function optionsOf(separator, format) {
   if (!areNamed(separator)) return { __proto__: null, separator, format };
   if (format === undefined) return namedOptions("parseColumn", separator, ["separator", "format", ...OF_LINES]);
@@ -74,7 +74,7 @@ function numbersOfFields(text, { call, numbers }, separator, format) {
   return joined(parts, numbers.constructor);
 }
 
-/** The numbers of lines, as those of a table whose one column no byte but a line feed ends. */
+/** The numbers of lines, read as a table of one column. */
 function numbersOfLines(text, type, options) {
   const chosen = (names) => Object.fromEntries(names.map((name) => [name, options[name]]));
   if (options.missing !== undefined && !flagOf("may_miss", options.may_miss)) {
@@ -82,7 +82,7 @@ function numbersOfLines(text, type, options) {
   }
   const read = readOf({ type, ...chosen(["format", "may_miss", ...AMOUNT_FIELDS]) });
   const how = { ...tableOf({ separator: LINE_FEED, ...chosen(OF_TABLES) }, 1), unit: "field" };
-  const bytes = memory.bytesOf(text); // (last, since what comes before may run code that takes them away)
+  const bytes = memory.bytesOf(text); // (last: the lines above may run a getter that detaches the buffer)
   const errorOf = (bad) => faultOfField(bad.status, bad.place, bad.row, bad.start);
   return readRows(bytes, 0, [read], how, errorOf).columns[0];
 }

@@ -6,7 +6,7 @@ export class JadvolniError extends Error {
   name = "JadvolniError";
 }
 
-// What each fault of a text has, beside its message: those of columns and tables have more.
+// The properties that only errors of columns, tables or bounds set.
 const NOTHING_MORE = {
   field: undefined,
   start: undefined,
@@ -24,20 +24,20 @@ const NOTHING_MORE = {
 export class ParseError extends JadvolniError {
   name = "ParseError";
 
-  /** A fault by its kind and what is said of it, with its place and what else is known of it. */
+  /** An error with a message, a kind, a place, and further properties. */
   constructor(message, kind, place, more = {}) {
     super(message);
     Object.assign(this, { kind, place }, NOTHING_MORE, more);
   }
 }
 
-/** The fault of a text that a call has answered. */
+/** The error for a text, by the status and the place that a call returned. */
 export function faultOfText(status, place) {
   const [kind, text] = STATUSES[status];
   return new ParseError(`${text} at byte ${place}`, kind, place);
 }
 
-/** The fault of a field of a column, which starts at a place. */
+/** The error for a field of a column, which starts at `start`. */
 export function faultOfField(status, place, field, start) {
   const [kind, text] = STATUSES[status];
   return new ParseError(`${text} at byte ${place}, in field ${field}`, kind, place, { field, start });

@@ -1,4 +1,4 @@
-// What is known of a bad row of a table, and said of it.
+// The errors of a table's bad rows.
 
 import { ParseError } from "./errors.js";
 import { endOfRow } from "./header.js";
@@ -8,11 +8,11 @@ import { named, putBytes, TEXT } from "./memory.js";
 import { PIECE } from "./pieces.js";
 import { frontOf, quoted, quotedBytes } from "./shown.js";
 
-// At most this many bytes of a cell are shown. A character's bytes more say how it goes on.
+// At most this many bytes of a cell are shown. Those of one more character tell whether the last one is whole.
 const MOST_SHOWN = 40;
 const LONGEST_CHARACTER = 4;
 
-// Where these are wrong there is no cell.
+// Faults without a wrong cell.
 const WITHOUT_CELL = ["TooFewCells", "MissingReturn"];
 
 /** Where the wrong cell of a row is, and its first bytes: none where a cell or the return is missing. */
@@ -23,7 +23,7 @@ function cellOf(bytes, kind, { place, cell }) {
 
 const lineColumn = named("jadvolni_line_column");
 
-/** Counts the line feeds before places, of which none is before the last one. The bytes go through memory piece by piece. */
+/** Counts the line feeds before a place. Places must not decrease from call to call. */
 function lineCounter(bytes) {
   let lines = 0;
   let counted = 0;
@@ -37,7 +37,7 @@ function lineCounter(bytes) {
   };
 }
 
-/** What is said of a fault: lines, rows and columns count from 1, as editors do, and bytes from 0. */
+/** The message of a fault: lines, rows and columns count from 1, as in editors, and bytes from 0. */
 function messageOf(kind, said, where, column, cell, place) {
   if (kind === "MissingReturn") return `${where}: ${said}`;
   if (kind === "TooFewCells") return `${where}: ${said}, none for ${column}`;
@@ -45,7 +45,7 @@ function messageOf(kind, said, where, column, cell, place) {
   return kind === "TooManyCells" ? message : `${message} at byte ${place - cell.start} of the cell`;
 }
 
-/** Makes the errors of bad rows, one behind the other, whose places count from the start of these bytes. */
+/** Returns a function that makes the errors of bad rows, in their order. Places count from the first of these bytes. */
 export function errorsOfRows(bytes, how, names) {
   const linesBefore = lineCounter(bytes);
   return (bad) => {

@@ -12,12 +12,12 @@ const decoder = new TextDecoder("utf-8", { ignoreBOM: true });
 
 // At most this many names are listed in a message.
 const LISTED = 40;
-// What tables have between their cells.
+// Usual separators of tables.
 const SEPARATORS = [",", ";", "\t", "|"];
 
 /**
- * Where the row stops that begins at a place, what ends it counted, and the place of a quote that is open there. A line
- * feed ends a row where an even number of quotes stands before it, whether these are in place or not.
+ * The place after the row that begins at `start`, with its line end; and if a quote is open there, that quote's place.
+ * A line feed ends the row if the row has an even number of quotes before it, even misplaced ones.
  */
 export function endOfRow(bytes, start, { has_quotes, recordSize }) {
   if (recordSize !== undefined) return { stop: Math.min(bytes.length, start + recordSize) };
@@ -29,7 +29,7 @@ export function endOfRow(bytes, start, { has_quotes, recordSize }) {
         last = { open, stop: place + 1 };
         open = undefined;
       } else {
-        open = last.stop === place ? last.open : place; // one that doubles the one in front of it opens nothing
+        open = last.stop === place ? last.open : place; // (the second of two quotes opens nothing)
       }
     } else if (bytes[place] === LINE_FEED && open === undefined) {
       return { stop: place + 1 };
@@ -38,15 +38,15 @@ export function endOfRow(bytes, start, { has_quotes, recordSize }) {
   return { stop: bytes.length, open };
 }
 
-/** What a cell holds, without its quotes and blanks. */
+/** The name in a cell, without quotes and blanks. */
 function nameOf(cell, { has_quotes, allows_blanks }) {
-  const text = decoder.decode(cell.slice()); // (a copy: what is shared between threads isn't decoded)
+  const text = decoder.decode(cell.slice()); // (a copy: a decoder refuses shared memory)
   const held = has_quotes && text.startsWith('"') ? text.slice(1, -1).replaceAll('""', '"') : text;
   return allows_blanks ? held.replace(/^[ \t]+|[ \t]+$/g, "") : held;
 }
 
-/** Where the first row that the table doesn't skip starts and stops, behind a byte order mark. `ask` throws where a row
- * from a place to another is too long. */
+/** Where the first row that the table doesn't skip starts and stops, after a byte order mark. `ask` throws if a row is
+ * too long. */
 function firstRow(bytes, how, ask) {
   let start = BYTE_ORDER_MARK.every((byte, place) => bytes[place] === byte) ? 3 : 0;
   putTableAlone(how);
@@ -60,8 +60,8 @@ function firstRow(bytes, how, ask) {
 }
 
 /**
- * The names of a text's columns, and the place behind them. `ask` throws where the row from a place to another is too
- * long, and `judge` where it isn't a row with that number of columns: the library has the rules.
+ * The names of a text's columns, and the place after the header. `ask` throws if a row is too long, and `judge` if the
+ * library doesn't accept it as a row with that number of columns.
  */
 export function headerOf(bytes, how, ask, judge) {
   const { start, stop } = firstRow(bytes, how, ask);
@@ -77,14 +77,14 @@ function listed(names) {
   return names.slice(0, LISTED).map(described).join(", ") + rest;
 }
 
-/** What may be wrong where a header has one column, and no name is found. */
+/** A hint for the error if the header has one column: the separator may be another one. */
 function hintOf(names, { separator, widths }) {
   const isOther = (it) => names[0].includes(it) && it.charCodeAt(0) !== separator;
   const other = names.length === 1 && widths.length === 0 ? SEPARATORS.find(isOther) : undefined;
   return other === undefined ? "" : `; separator may have to be ${described(other)}`;
 }
 
-/** The column that alone has a name. */
+/** The only column with a name. */
 export function columnOf(names, name, how) {
   const column = names.indexOf(name);
   if (column !== -1 && names.indexOf(name, column + 1) === -1) return column;

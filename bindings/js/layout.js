@@ -1,4 +1,4 @@
-// A table and its columns as the library has them, and its calls over those; jadvolni.h has the structs.
+// A table and its columns in the library's memory, as structs of jadvolni.h, and the calls that read them.
 
 import * as memory from "./memory.js";
 import { numbersPlace, PIECE } from "./pieces.js";
@@ -9,10 +9,10 @@ const call = memory.named("jadvolni_parse_table");
 const callSkipping = memory.named("jadvolni_parse_table_skipping");
 const rowPlace = memory.named("jadvolni_row_place");
 
-// What a call is given and gives, behind the text: its answer, a table, its columns, the bytes that
-// stand for a missing number, the widths of cells, what is reported of bad rows, and the columns' arrays.
-// A column is its format; two words on amounts; for each type the address of an array and its room;
-// those of where its texts stand; and those of its bits, which say where there is something.
+// The memory after the text holds, in this order: the call's result, the table, its columns, the bytes that stand
+// for a missing number, the widths of cells, the bad rows, and the columns' arrays. A column has its format, two words
+// about amounts, and then an address and a capacity each for an array of every type, for texts, and for the bits that
+// say which rows have a value.
 const tablePlace = numbersPlace + 48;
 const columnsPlace = tablePlace + 48;
 const WORDS = 26;
@@ -22,7 +22,7 @@ export const TYPES = ["i64", "u64", "i32", "u32", "i16", "u16", "i8", "u8", "tex
 export const FLAGS = [
   "has_returns", "has_quotes", "allows_blanks", "skips_empty_rows", "is_records", "allows_returns",
 ];
-// What is known of a bad row, as words of 32 bits.
+// The size of a bad row's struct in words of 32 bits.
 const WORDS_OF_BAD_ROW = 16;
 
 export const ANSWER = BigInt(numbersPlace);
@@ -39,7 +39,7 @@ function sizeOf(read) {
   return size + Number(read.mayMiss);
 }
 
-/** How many rows there is memory for. An array may begin some bytes behind the end of another. */
+/** How many rows there is memory for. Arrays are aligned, so some bytes between them stay unused. */
 function rowsOf(reads, missing, bad) {
   const ofTable = 8 * (WORDS + 3) * reads.length + missing.length + 8;
   const before = columnsPlace + ofTable + 4 * WORDS_OF_BAD_ROW * bad;
@@ -49,7 +49,7 @@ function rowsOf(reads, missing, bad) {
   return rows;
 }
 
-/** Gives arrays of the memory from a place on, one behind the other. */
+/** Returns a function that allocates arrays in the memory from a place on, one after the other. */
 function arraysFrom(place) {
   let next = place;
   return (NumberArray, length) => {

@@ -1,5 +1,5 @@
-// The proved library as a WebAssembly module, and its memory: where a call finds its arguments, and
-// leaves its answer. What is behind `__heap_base` the library never uses, so it is taken for these.
+// The proved library as a WebAssembly module, and its memory, through which calls get arguments and return results.
+// The library never uses the memory from `__heap_base` on, so they go there.
 
 import { described } from "./arguments.js";
 import { JadvolniError } from "./errors.js";
@@ -48,7 +48,7 @@ async function load() {
 
 const exported = await load();
 
-/** What is thrown where the module isn't that of this package. */
+/** The error if the module belongs to another version of this package. */
 export function otherVersion(detail) {
   return new JadvolniError(`${MODULE} is of another version: ${detail}`);
 }
@@ -61,9 +61,8 @@ export function named(name) {
 
 export const buffer = named("memory").buffer;
 
-// What a call is given and gives: its answer, a number, a count and an entry, a format, with what makes it one of
-// amounts, and from there on a text. It takes their addresses, and writes an answer of two words to
-// the first of them.
+// That memory holds, in this order: a call's result of two words, a number, a count and an entry, a format (or, with
+// more bytes, a jadvolni_fixed), and the text. A call gets their addresses.
 const answerPlace = Math.ceil(Number(named("__heap_base").value) / 16) * 16;
 const numberPlace = answerPlace + 16;
 const countPlace = numberPlace + 16;
@@ -86,13 +85,13 @@ const decoder = new TextDecoder();
 // Up to this length a loop is faster than the encoder.
 const SHORT = 24;
 
-// What the last call has answered. The memory is so small that 32 bits are enough for each.
+// The results of the last call. The memory has less than 4 GiB, so 32 bits are enough for each.
 export const status = () => answer[0];
 export const place = () => answer[2];
 export const count = () => counted[0];
 export const entry = () => counted[2];
 
-/** Where calls leave a number, as an array of its type, or of its halves. */
+/** The place where calls write a number, as an array of its type, or of its halves. */
 export function numberAs(NumberArray, length = 1) {
   return new NumberArray(buffer, numberPlace, length);
 }
@@ -104,7 +103,7 @@ export function textBetween(start, stop) {
 
 let putBefore;
 
-/** Copies the bytes of a format or of amounts, which stay as they are: those of the call before are there. */
+/** Copies the bytes of a format or a jadvolni_fixed, unless they are there from the last call: they never change. */
 export function putFormat(bytes) {
   if (bytes === putBefore) return;
   formatBytes.set(bytes);
@@ -121,7 +120,7 @@ function putAscii(text) {
   return true;
 }
 
-// An array's own length, buffer and place there: what a class above Uint8Array has may be another.
+// An array's own length, buffer and offset, which a subclass of Uint8Array may override.
 const { prototype } = Object.getPrototypeOf(Uint8Array);
 const getterOf = (name) => Object.getOwnPropertyDescriptor(prototype, name).get;
 const [LENGTH, BUFFER, OFFSET] = ["length", "buffer", "byteOffset"].map(getterOf);

@@ -10,14 +10,14 @@ import { areNamed, formatOf, namedOptions } from "./options.js";
 
 const { ANSWER, FORMAT, NUMBER, TEXT } = memory;
 
-/** The place at which a call has stopped, or the fault that it has found. */
+/** The place at which the last call stopped. Throws the fault that it found. */
 export function stopOfCall() {
   const status = memory.status();
   if (status !== 0) throw faultOfText(status, memory.place());
   return memory.place();
 }
 
-/** A call of the library over a text, for a type: where it stops. It leaves the number. */
+/** A function that calls the library on a text, for a type, and returns where that stops. It leaves a number there. */
 function callOf(name) {
   const call = memory.named(`jadvolni_parse_${name}`);
   const callUnderFormat = memory.named(`jadvolni_parse_${name}_with_format`);
@@ -33,7 +33,7 @@ function callOf(name) {
   };
 }
 
-/** A call of the library over an amount, whose description stands where a format does: where it stops. */
+/** The same on an amount: its description takes the format's place. */
 function callOfAmount(name) {
   const call = memory.named(`jadvolni_parse_${name}`);
   return (text, amount) => {
@@ -44,13 +44,13 @@ function callOfAmount(name) {
   };
 }
 
-/** Takes the number that a call has left. */
+/** A function that returns the number of the last call. */
 function numberOf(NumberArray) {
   const left = memory.numberAs(NumberArray);
   return () => left[0];
 }
 
-/** Takes one of 128 bits, whose high half, with its sign, is of this array's type. */
+/** The same for 128 bits: the array's type is that of the high half, which has the sign. */
 function numberOfHalves(HalfArray) {
   const low = memory.numberAs(BigUint64Array);
   const halves = memory.numberAs(HalfArray, 2);

@@ -2,7 +2,7 @@
 
 import * as memory from "./memory.js";
 
-// A fifth of the memory is for text, of which two bytes give a number of at most eight.
+// A fifth of the memory is for text: each two bytes of it can give a number of eight bytes, in the rest.
 export const PIECE = Math.floor(memory.LONGEST / 5);
 export const numbersPlace = Math.ceil((memory.textPlace + PIECE) / 16) * 16;
 
@@ -18,7 +18,7 @@ export const ARRAYS = {
   i64: BigInt64Array,
 };
 
-/** The numbers of all parts, of which the arrays are of one type. */
+/** All parts joined into one array. */
 export function joined(parts, NumberArray) {
   if (parts.length === 1) return parts[0];
   const all = new NumberArray(parts.reduce((sum, part) => sum + part.length, 0));

@@ -49,12 +49,12 @@ export function parseTable(text, columns, table = {}) {
   }
   const reads = Array.from(columns, readOf);
   const how = tableOf(table, reads.length);
-  const bytes = memory.bytesOf(text); // (last, since what comes before may run code that takes them away)
+  const bytes = memory.bytesOf(text); // (last: the lines above may run a getter that detaches the buffer)
   const { names, stop } = how.header ? judgedHeader(bytes, how) : { names: [], stop: 0 };
   return answerOf(bytes, stop, reads, how, names);
 }
 
-// Small tables, and what is known of each where the module finds all where it is put.
+// Small tables with their answers. A module of another version finds the structs elsewhere, and answers otherwise.
 const TYPES_OF_NUMBERS = TYPES.slice(0, -1);
 const KNOWN = [
   ["1234", ["u8", "u8"], { widths: [1, 1], is_records: true }, [[1, 3], [2, 4]]],
@@ -64,10 +64,10 @@ const KNOWN = [
     [['1"', "b"], ["2", null]]],
 ];
 
-/** What a column has, as numbers or texts. */
+/** A column as a list of numbers or texts. */
 const listOf = (column) => Array.from(column, (it) => (typeof it === "bigint" ? Number(it) : it));
 
-/** Whether the columns of each type and their bits are found. */
+/** Whether the module finds the columns of each type, and their bits. */
 function hasColumns() {
   const cells = TYPES_OF_NUMBERS.map((type, index) => (type.startsWith("i") ? -1 - index : 1 + index));
   const text = [cells.join(";"), cells.map(() => "NA").join(";")].join("\n");
@@ -76,7 +76,7 @@ function hasColumns() {
   return read.every(({ numbers, present }, index) => `${numbers};${present}` === `${cells[index]},0;1,0`);
 }
 
-/** Whether bad rows are found, with their cells and the names of a header. */
+/** Whether the module reports bad rows, with their cells and column names. */
 function hasBadRows() {
   const errors = [];
   const table = { header: true, onError: "skip", errors };

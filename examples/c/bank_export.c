@@ -1,5 +1,5 @@
 /* Prints a bank's or a shop's export of days, accounts, purposes and amounts, and their sum: bank_export MARKS < FILE
- * These part fields, stand before cents, and group digits: ';,.' for -1.234,50 and ',.,' for "1,234.00". */
+ * MARKS are the separator, the point and the digit separator: ';,.' for -1.234,50 and ',.,' for "1,234.00". */
 #include "command.h"
 #include <jadvolni.h>
 

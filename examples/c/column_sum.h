@@ -2,8 +2,7 @@
  * Adds up a column of a table on standard input, which may be of any size, block by block: ledger.c,
  * csv_column.c and records.c say how the table is written.
  *
- * The first wrong cell is reported by its row and its place in this, counted from 1, and by its byte, counted
- * from 0.
+ * The first wrong cell is reported by its row and column, counted from 1, and by its byte, counted from 0.
  */
 #include "command.h"
 #include <jadvolni.h>

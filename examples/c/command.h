@@ -5,8 +5,8 @@
 #include <stdlib.h>
 #include <string.h>
 
-/* Goes on if the arguments are right. Else it prints the program's page to standard error, with status 2; or, if
- * `--help` is the first of them, to standard output, with status 0. */
+/* Returns if the arguments are right. Otherwise it prints the program's usage and exits: to standard output with
+ * status 0 if the first one is `--help`, else to standard error with status 2. */
 static inline void check_arguments(bool are_right, int count, char **arguments, const char *page)
 {
     bool is_asked = count > 1 && strcmp(arguments[1], "--help") == 0;

@@ -1,5 +1,5 @@
 /* Adds up a column of comma-separated values: csv_column COLUMN < FILE. Columns count from 1.
- * The first line is one of numbers too, and each has as many cells as it. Quotes have no meaning. */
+ * There is no header, and each line has as many cells as the first. Quotes have no meaning. */
 #include "column_sum.h"
 
 /* How many cells the first line of standard input has. */

@@ -1,5 +1,5 @@
 // Adds up a column of comma-separated values, in as many threads as there are cores: csv_column COLUMN < FILE
-// Columns count from 1. The first line is one of numbers too, without quotes, and each has as many cells as it.
+// Columns count from 1. There is no header and no quote, and each line has as many cells as the first.
 #include "../c/command.h"
 #include "table_threads.hpp"
 #include <string>

@@ -43,7 +43,7 @@ static std::string read(std::string_view text, std::size_t step, std::size_t siz
     return shown;
 }
 
-// Rows of megabytes, byte by byte: what looked at a byte for each one that follows would need hours.
+// Rows of megabytes, byte by byte: a reader that looked at a row's bytes again for each new one would need hours.
 static void byte_by_byte()
 {
     const std::size_t length = 1 << 20;
@@ -124,7 +124,7 @@ static void open_quotes()
     CHECK(read("\"abcdefghijklmnop\n", 1, 12, commas(false)) == "a row has no room at 0");
 }
 
-// What refuses a column says which condition it breaks, of a whole text as in blocks.
+// If a column is refused, the message names the broken condition, for a whole text and in blocks.
 static void refused_columns()
 {
     auto says = [](const std::vector<jadvolni::table_column> &given, std::size_t rows, std::size_t column, const char *wanted) {

@@ -4,7 +4,7 @@
 
 #include <limits.h>
 
-/* Checks what a call answers, and what is then behind the pointer, where 77 was. */
+/* Checks a call's result, and the number at its pointer, which was 77 before. */
 #define EXPECT(call, type, format_argument, text, wanted_status, wanted_place, wanted_number)      \
     do {                                                                                           \
         type value = 77;                                                                           \
@@ -88,7 +88,7 @@ static void faults_of_texts(void)
     EXPECT(jadvolni_parse_i8_partial, int8_t, NO_FORMAT, "-128 }", JADVOLNI_OK, 4, INT8_MIN);
 }
 
-/* Where no digit is in front of a text, that is a fault, which `_partial` doesn't tell. */
+/* A text that doesn't begin with a number is at fault, which `_partial` doesn't report. */
 static void fronts_without_a_digit(void)
 {
     jadvolni_format json = JADVOLNI_FORMAT_JSON, literal = JADVOLNI_FORMAT_LITERAL;
@@ -167,7 +167,7 @@ static void formats(void)
     EXPECT(jadvolni_parse_u8_with_format, uint8_t, UNDER(hexadecimal), "0x1F", JADVOLNI_OK, 4, 31);
 }
 
-/* 0 alone is no separator, prefix or suffix, and with the flag beside it it is. */
+/* The byte 0 is no separator, prefix or suffix, unless its flag is set. */
 static void nul_as_punctuation(void)
 {
     jadvolni_format nul = JADVOLNI_FORMAT_STANDARD;
@@ -443,7 +443,7 @@ static void typed_literals(void)
     EXPECT_TYPED(rust, "1u8", JADVOLNI_UNKNOWN_FIELD, 77, 77, 77, 0);
 }
 
-/* A table that has no entries, and those of which an entry is wrong, whatever the text is. */
+/* A table without entries, and tables with a wrong entry, which are refused whatever the text is. */
 static void tables_of_suffixes(void)
 {
     static const uint32_t wrong[][2] = {{0, 0}, {13, 0}, {UINT32_MAX, 0}, {JADVOLNI_TYPE_U8, 1}};

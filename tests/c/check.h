@@ -16,8 +16,8 @@ static void check(const char *file, int line, int holds, const char *what)
 
 #define CHECK(...) check(__FILE__, __LINE__, !!(__VA_ARGS__), #__VA_ARGS__)
 
-/* What a macro says of each type that columns have: of its name, C's type, its least number, its greatest, and how many
- * bytes these two are, each with one behind it. */
+/* Calls the macro SAYS for each type of columns: with its name, its C type, its least and its greatest number, and the
+ * length of a text with both, each with a separator. */
 #define OF_EACH_TYPE(SAYS)                                  \
     SAYS(u8, uint8_t, 0, 255, 6);                           \
     SAYS(u16, uint16_t, 0, 65535, 8);                       \
@@ -28,7 +28,7 @@ static void check(const char *file, int line, int holds, const char *what)
     SAYS(i32, int32_t, -2147483648, 2147483647, 23);        \
     SAYS(i64, int64_t, -9223372036854775808, 9223372036854775807, 41)
 
-/* Memory on the heap of just these bytes: so a sanitizer sees each read and each write outside of it. */
+/* A copy of these bytes on the heap: a sanitizer sees each access outside of it. */
 static inline void *exactly(const void *bytes, size_t len)
 {
     void *copy = malloc(len ? len : 1);

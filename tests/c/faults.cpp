@@ -75,7 +75,7 @@ static void hostile_cells()
                "line 1, column 3: \"" + zeros + "\"..: invalid digit at byte 44 of the cell"));
     CHECK(says("1,a," + zeros, commas(), "no fault"));
     CHECK(says("1,a,\xC3\xA9\n", commas(), "line 1, column 3: \"\xC3\xA9\": invalid digit at byte 0 of the cell"));
-    // It is cut within no letter in words.
+    // A message cuts a long cell between two characters.
     std::string accents = "7", most;
     for (int index = 0; index < 30; ++index) accents += "\xC3\xA9";
     most = accents.substr(0, 39);

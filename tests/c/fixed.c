@@ -2,7 +2,7 @@
 #include "jadvolni.h"
 #include "check.h"
 
-/* Checks what a call answers, and what is then behind the pointer, where 77 was. */
+/* Checks a call's result, and the number at its pointer, which was 77 before. */
 #define EXPECT(call, type, fixed, text, wanted_status, wanted_place, wanted_number) \
     do {                                                                            \
         type value = 77;                                                            \

@@ -26,7 +26,7 @@ static uint64_t below(uint64_t count)
     return (state >> 11) % count;
 }
 
-/* Bytes between two pages that nobody may touch. */
+/* Bytes between two protected pages. */
 static char *guarded(size_t size)
 {
     char *pages = mmap(NULL, size + 2 * PAGES, PROT_NONE, MAP_PRIVATE | MAP_ANONYMOUS, -1, 0);
@@ -100,7 +100,7 @@ static jadvolni_format random_format(void)
     return format;
 }
 
-/* Digits that the type has, or now and then one more: behind a minus, a plus or zeros now and then. */
+/* As many digits as the type has, now and then one more, and now and then after a sign or zeros. */
 static size_t random_field(char *to, int type, const jadvolni_format *format)
 {
     size_t len = 0, zeros = below(24) == 0 && !format->no_integer_leading_zeros ? below(6) : 0;

@@ -7,7 +7,7 @@
 
 /* ---- where a row is */
 
-/* The row of a number of a text is from one place to another. */
+/* Whether the text's row with this number begins and ends at these places. */
 static int is_at(const char *text, size_t len, jadvolni_table table, size_t row, size_t start, size_t stop)
 {
     char *bytes = exactly(text, len);
@@ -49,7 +49,7 @@ static void places(void)
 
 /* ---- where its cells are */
 
-/* The first row of a text has `cells` cells, of which the one of a column is at a place, with a size. */
+/* Whether the first row of a text has `cells` cells, and that of a column has this place and size. */
 static int has_cell(const char *text, size_t len, jadvolni_table table, size_t count, size_t column, size_t start,
                     size_t size)
 {
@@ -94,7 +94,7 @@ static void cells_of_rows(void)
 
 /* ---- bad rows */
 
-/* What is answered is this. */
+/* Whether a call's result has these fields; it prints another one. */
 static int answers(jadvolni_skipping_result r, uint32_t status, size_t column, size_t rows, size_t bad_rows, size_t place)
 {
     if (r.status == status && r.column == column && r.rows == rows && r.bad_rows == bad_rows && r.place == place)
@@ -104,7 +104,7 @@ static int answers(jadvolni_skipping_result r, uint32_t status, size_t column, s
     return 0;
 }
 
-/* What is known of a bad row is this, and no more. */
+/* Whether a bad row has these fields, and zeros in the reserved ones. */
 static int is_bad(jadvolni_bad_row bad, size_t row, uint32_t status, size_t column, size_t place, size_t start, size_t stop)
 {
     static const uint8_t zeros[sizeof bad.reserved];
@@ -163,7 +163,7 @@ static void rows(void)
     CHECK(is_bad(bad[0], 0, JADVOLNI_INVALID_DIGIT, 2, 9, 0, 17) && is_bad(bad[1], 1, JADVOLNI_TOO_FEW_CELLS, 2, 22, 17, 24));
     CHECK(answers(READ("1;;2\n3;;4\r\n", ledger), JADVOLNI_OK, 0, 1, 1, 11));
     CHECK(STORED(3, 4, 77, 99) && is_bad(bad[0], 0, JADVOLNI_MISSING_RETURN, 3, 4, 0, 5));
-    /* a quote that nothing closes takes the rest with it */
+    /* a quote that isn't closed makes the rest one row */
     jadvolni_table quotes = {.separator = ',', .has_quotes = 1, .skips_empty_rows = 1};
     CHECK(answers(READ("\n1,,2\n\n3,,\"4\n5,,6\n", quotes), JADVOLNI_OK, 0, 1, 1, 18));
     CHECK(is_bad(bad[0], 1, JADVOLNI_MISPLACED_QUOTE, 2, 10, 7, 18));
@@ -171,7 +171,7 @@ static void rows(void)
     CHECK(STORED(1, 2, 3, 4) && is_bad(bad[0], 1, JADVOLNI_INVALID_DIGIT, 0, 7, 7, 11));
 }
 
-/* Reading stops behind the last right row that is asked for, and a call goes on from there. */
+/* Reading stops after the last good row that is asked for, and another call continues there. */
 static void parts(void)
 {
     static const char text[] = "x,,\n1,,2\ny,,\n3,,4\n5,,6\nz,,\n";

@@ -4,7 +4,7 @@
 
 #define STANDARD JADVOLNI_FORMAT_STANDARD
 
-/* What is answered is this. */
+/* Whether a call's result has these fields; it prints another one. */
 static int answers(jadvolni_table_result r, uint32_t status, size_t column, size_t rows, size_t place)
 {
     if (r.status == status && r.column == column && r.rows == rows && r.place == place) return 1;
@@ -12,7 +12,7 @@ static int answers(jadvolni_table_result r, uint32_t status, size_t column, size
     return 0;
 }
 
-/* Reads a text from memory that has not a byte more. */
+/* Reads a copy of a text, after which a sanitizer sees each access. */
 static inline jadvolni_table_result read_table(const char *text, const jadvolni_table *table, size_t rows,
                                                jadvolni_table_column *columns, size_t count)
 {

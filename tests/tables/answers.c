@@ -1,11 +1,11 @@
 /* Answers questions about tables by jadvolni_parse_table, or by the call that skips bad rows, for tests/tables/compare.py.
  *
  * Standard input has questions: a struct question, a struct target and a width for each column, the mark and the text.
- * Each is asked with all that the call is handed right in front of a page that can't be touched, and with all right
- * behind one; of the whole text, and of its two parts for each cut. All ways have to get one answer. Standard output has
- * 0 or the number of the first that got another one, which then follows, as uint64_t; so status, column, rows and place;
- * and, for each column that is read, its numbers, or where its texts stand, and its bits. Where bad rows are skipped,
- * their number follows, what is known of them, and where some rows are. */
+ * Each is asked in several ways: with the call's memory directly before a protected page, and directly after one; for
+ * the whole text, and for its two parts at each cut. All ways have to get one answer. Standard output gets 0, or the
+ * number of the first way with another answer, and then that answer: status, column, rows and place, each as uint64_t;
+ * for each column that is read its numbers, or the places of its texts, and its bits; and if bad rows are skipped,
+ * their number, their structs, and the places of some rows. */
 #define _DEFAULT_SOURCE
 #include "jadvolni.h"
 
@@ -45,7 +45,7 @@ static uint8_t bits[MOST_COLUMNS][(MOST_ROWS + 7) / 8];
 /* What is known of bad rows. A part gets what is left of the array. */
 static jadvolni_bad_row bad[UINT8_MAX];
 
-/* Where lies what the call is handed: each in a region of its own, at one of its ends. */
+/* The call's memory: each array in a mapping of its own, at one of its ends. */
 enum { TEXT, MISSING, TABLE, WIDTHS, COLUMNS, BAD, NUMBERS, BITS = NUMBERS + MOST_COLUMNS, REGIONS = BITS + MOST_COLUMNS };
 static char *regions[REGIONS];
 static bool at_end;
@@ -55,7 +55,7 @@ static void *within(int region, size_t size)
     return regions[region] + (at_end ? REGION - size : 0);
 }
 
-/* A region between two pages that nobody may touch. */
+/* Memory between two protected pages. */
 static char *guarded(void)
 {
     char *pages = mmap(NULL, REGION + 2 * GUARD, PROT_NONE, MAP_PRIVATE | MAP_ANONYMOUS, -1, 0);
