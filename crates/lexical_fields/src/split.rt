@@ -15,9 +15,6 @@ pub fn field_length(text: &[u8], separator: u8) -> usize
     ensures before { (k : ℕ) → k < result → slice_index text.now k ≢ separator }
     ensures found { result < length text.now → slice_index text.now result ≡ separator }
 {
-    if text.len() < 16 {
-        return end_by_bytes(text, separator);
-    }
     let mut start = 0;
     while text.len() - start >= 16 {
         if let Some(place) = first_of_16(&text[start..start + 16], separator) {
@@ -25,33 +22,19 @@ pub fn field_length(text: &[u8], separator: u8) -> usize
         }
         start += 16;
     }
-    end_in_last_16(text, separator)
+    end_from(text, separator, start)
 }
 
-// Where the first field ends, if no separator stands before the last sixteen bytes.
+// Where the first field ends, if no separator stands before a place.
 #[inline(always)]
-fn end_in_last_16(text: &[u8], separator: u8) -> usize
-    requires room { 16 ≤ length text.now }
-    requires none { (k : ℕ) → k + 16 < length text.now → slice_index text.now k ≢ separator }
+fn end_from(text: &[u8], separator: u8, start: usize) -> usize
+    requires start { start ≤ length text.now }
+    requires none { (k : ℕ) → k < start → slice_index text.now k ≢ separator }
     ensures within { result ≤ length text.now }
     ensures before { (k : ℕ) → k < result → slice_index text.now k ≢ separator }
     ensures found { result < length text.now → slice_index text.now result ≡ separator }
 {
-    let start = text.len() - 16;
-    match first_of_16(&text[start..start + 16], separator) {
-        Some(place) => start + place,
-        None => text.len(),
-    }
-}
-
-// Where the first field of a text ends that has too few bytes for a look at sixteen.
-#[inline(always)]
-fn end_by_bytes(text: &[u8], separator: u8) -> usize
-    ensures within { result ≤ length text.now }
-    ensures before { (k : ℕ) → k < result → slice_index text.now k ≢ separator }
-    ensures found { result < length text.now → slice_index text.now result ≡ separator }
-{
-    for i in 0..text.len() {
+    for i in start..text.len() {
         if text[i] == separator {
             return i;
         }
