@@ -306,6 +306,17 @@ def man_pages() -> str:
 
 # ---- Rust and Python
 
+def refuse_words(place: Place) -> None:
+    """The examples in Rust end with status 2 where words are missing, also if they can't say so."""
+    for name in ("bad_rows", "settings", "table_threads"):
+        program = place.path(f"target/debug/examples/{name}")
+        for errors in (os.devnull, "/dev/full"):
+            with open(errors, "wb") as device:
+                done = subprocess.run([program], stdin=subprocess.DEVNULL, stderr=device, timeout=60)
+            if done.returncode != 2:
+                raise Failed(f"{program} ended with {done.returncode} without words, on {errors}")
+
+
 def cargo(place: Place) -> str:
     """The tests, examples and documents of the two Rust crates, without the network."""
     needs("cargo", "cc")
@@ -321,6 +332,7 @@ def cargo(place: Place) -> str:
     page = run(["cargo", "run", *alone, "--features=std", "--example", "bad_rows", "--", "--help"],
                where, crates)
     answer(page.partition("\n")[0], "usage: bad_rows NAME < FILE")
+    refuse_words(place)
     passed = re.findall(r"(?m)^test result: ok. ([0-9]+) passed", said)
     if shutil.which("cargo-clippy"):
         run(["cargo", "clippy", *alone, "--all-features", "--all-targets", "--", "-D", "warnings"],

@@ -53,7 +53,7 @@ fn main() -> ExitCode {
         }
         [name] => run(&name.to_string_lossy(), io::stdin(), io::stdout(), io::stderr()),
         _ => {
-            eprintln!("{PAGE}");
+            let _ = writeln!(io::stderr(), "{PAGE}"); // (eprintln! panics where it can't be written)
             return ExitCode::from(2);
         }
     };
@@ -61,7 +61,7 @@ fn main() -> ExitCode {
         Ok(0) => ExitCode::SUCCESS,
         Ok(_) => ExitCode::FAILURE,
         Err(error) => {
-            eprintln!("{error}");
+            let _ = writeln!(io::stderr(), "{error}");
             ExitCode::FAILURE
         }
     }
