@@ -26,7 +26,7 @@
  *
  * IF MORE BYTES MAY COME, as from a stream, a result of `_front` at place `len` isn't final: "12" may
  * continue as "123". Call again with more bytes. A result at an earlier place is final if the format
- * has no separator.
+ * has no separator and the call isn't `_fixed_front`, which says more at its declaration.
  *
  * DON'T USE `_partial` IF YOU NEED A NUMBER: if other bytes stand where digits should, it usually
  * returns JADVOLNI_OK and 0. Under the standard format "x" is 0 at place 0, and "+a" 0 at place 1.
@@ -712,8 +712,9 @@ uint32_t jadvolni_fixed_error(const jadvolni_fixed *fixed) JADVOLNI_PURE_ JADVOL
  *     JADVOLNI_EMPTY          where a digit is missing: at the end of "12.", and where there are fewer
  *                             digits than required.
  *
- * If fewer places are accepted, `_front` reads 12 from "12. And", and stops at 2. Everything else is as
- * the head of this file says.
+ * If fewer places are accepted, `_front` reads 12 from "12. And", and stops at 2. So if more bytes may
+ * come, a result at a point that ends the text isn't final either: "12." stops at 2, and may continue as
+ * "12.5". Everything else is as the head of this file says.
  */
 #define JADVOLNI_FIXED_(name, type)                                                            \
     jadvolni_result jadvolni_parse_##name##_fixed(const char *text, size_t len,                \
