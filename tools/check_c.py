@@ -312,7 +312,8 @@ def refuse_words(place: Place) -> None:
         program = place.path(f"target/debug/examples/{name}")
         for errors in (os.devnull, "/dev/full"):
             with open(errors, "wb") as device:
-                done = subprocess.run([program], stdin=subprocess.DEVNULL, stderr=device, timeout=60)
+                done = subprocess.run([program], stdin=subprocess.DEVNULL, stderr=device,
+                                      timeout=60)
             if done.returncode != 2:
                 raise Failed(f"{program} ended with {done.returncode} without words, on {errors}")
 
