@@ -1192,6 +1192,9 @@ size_t jadvolni_fold_quotes(const char *text, size_t len, char *folded, size_t c
 
 /* ---- helpers, written in C: they are tested, and nothing about them is proved ---- */
 
+/* So are two that stand above: jadvolni_format_of_radix, and what jadvolni_parse does for the kind of
+ * `long long` that isn't int64_t or uint64_t. */
+
 /*
  * Reads the column of a part of a text, such as a block of a file: all fields if it is the last part,
  * otherwise its whole ones. Everything else is as for jadvolni_parse_u64_column. Put the bytes from
