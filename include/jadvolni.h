@@ -519,8 +519,8 @@ JADVOLNI_CALLS_(isize, ptrdiff_t);
 /* Called if `value` of jadvolni_parse points to no integer: gcc and clang then say what it must be. */
 #ifdef __has_attribute
 #if __has_attribute(error)
-__attribute__((error("jadvolni_parse: `value` has to point to an integer of 8, 16, 32, 64 or 128 bits, "
-                     "and to no char, bool or constant")))
+__attribute__((error("jadvolni_parse: `value` has to point to an integer of 8, 16, 32 or 64 bits, a "
+                     "jadvolni_uint128 or a jadvolni_int128, and to no char, bool, __int128 or constant")))
 #endif
 #endif
 jadvolni_result jadvolni_parse_has_no_integer_to_write_to_(const char *text, size_t len, const void *value);
