@@ -318,6 +318,15 @@ def refuse_words(place: Place) -> None:
                 raise Failed(f"{program} ended with {done.returncode} without words, on {errors}")
 
 
+def start_no_thread(place: Place) -> None:
+    """The example in threads reads all in one, where none has memory for its stack."""
+    path, program = place.path("rows"), place.path("target/debug/examples/table_threads")
+    with open(path, "w", encoding="ascii") as file:
+        file.write("1;rent;-5\n2;;7\n3;;\n")
+    where = {**os.environ, "RUST_MIN_STACK": str(1 << 50)}
+    answer(run([program, path, "3"], where), "3 rows, the greatest amount is 7\n")
+
+
 def cargo(place: Place) -> str:
     """The tests, examples and documents of the two Rust crates, without the network."""
     needs("cargo", "cc")
@@ -334,6 +343,7 @@ def cargo(place: Place) -> str:
                where, crates)
     answer(page.partition("\n")[0], "usage: bad_rows NAME < FILE")
     refuse_words(place)
+    start_no_thread(place)
     passed = re.findall(r"(?m)^test result: ok. ([0-9]+) passed", said)
     if shutil.which("cargo-clippy"):
         run(["cargo", "clippy", *alone, "--all-features", "--all-targets", "--", "-D", "warnings"],
