@@ -211,7 +211,8 @@ def install(place: Place) -> str:
     share = f"{below}/usr/share"
     pages = {name[:-2] for name in os.listdir(f"{share}/man/man3")}
     named = {*CALLS, *re.findall(r"jadvolni\w*", text_of("packaging", "jadvolni.3.in"))}
-    wrong = {*CALLS} - pages | {name for name in pages - named if not name.endswith("_column_part")}
+    parts = {f"{it}_part" for it in CALLS if re.fullmatch(r"jadvolni_parse_\w+_column", it)}
+    wrong = ({*CALLS} | parts) - pages | (pages - named - parts)
     if wrong:
         raise Failed(f"no page, or not a word of it there: {sorted(wrong)}")
     missing = {"LICENSE-APACHE", "LICENSE-MIT", "NOTICE"} - set(os.listdir(f"{share}/doc/jadvolni"))

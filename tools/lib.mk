@@ -68,7 +68,7 @@ build/jadvolni.wasm: $(LIBRARY_SOURCES)
 # Each call has a page, which shows jadvolni(3): so `man jadvolni_parse_u64` finds what it looks for.
 # What isn't exported stands in the header alone.
 EXPORTS := $(shell cut -d ' ' -f 1 packaging/symbols.txt)
-CALLS := $(EXPORTS) $(addsuffix _part,$(filter %_column,$(EXPORTS))) \
+CALLS := $(EXPORTS) $(addsuffix _part,$(filter jadvolni_parse_%_column,$(EXPORTS))) \
     $(addprefix jadvolni_,parse format_of_radix status_name status_text table_text)
 PAGES = $(DESTDIR)$(MANDIR)/man3
 TO = $(DESTDIR)$(LIBDIR)
