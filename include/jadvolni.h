@@ -26,7 +26,7 @@
  *
  * IF MORE BYTES MAY COME, as from a stream, a result of `_front` at place `len` isn't final: "12" may
  * continue as "123". Call again with more bytes. A result at an earlier place is final if the format
- * has no separator.
+ * has no separator and the call isn't `_fixed_front`, which says more at its declaration.
  *
  * DON'T USE `_partial` IF YOU NEED A NUMBER: if other bytes stand where digits should, it usually
  * returns JADVOLNI_OK and 0. Under the standard format "x" is 0 at place 0, and "+a" 0 at place 1.
@@ -519,8 +519,8 @@ JADVOLNI_CALLS_(isize, ptrdiff_t);
 /* Called if `value` of jadvolni_parse points to no integer: gcc and clang then say what it must be. */
 #ifdef __has_attribute
 #if __has_attribute(error)
-__attribute__((error("jadvolni_parse: `value` has to point to an integer of 8, 16, 32, 64 or 128 bits, "
-                     "and to no char, bool or constant")))
+__attribute__((error("jadvolni_parse: `value` has to point to an integer of 8, 16, 32 or 64 bits, a "
+                     "jadvolni_uint128 or a jadvolni_int128, and to no char, bool, __int128 or constant")))
 #endif
 #endif
 jadvolni_result jadvolni_parse_has_no_integer_to_write_to_(const char *text, size_t len, const void *value);
@@ -712,8 +712,9 @@ uint32_t jadvolni_fixed_error(const jadvolni_fixed *fixed) JADVOLNI_PURE_ JADVOL
  *     JADVOLNI_EMPTY          where a digit is missing: at the end of "12.", and where there are fewer
  *                             digits than required.
  *
- * If fewer places are accepted, `_front` reads 12 from "12. And", and stops at 2. Everything else is as
- * the head of this file says.
+ * If fewer places are accepted, `_front` reads 12 from "12. And", and stops at 2. So if more bytes may
+ * come, a result at a point that ends the text isn't final either: "12." stops at 2, and may continue as
+ * "12.5". Everything else is as the head of this file says.
  */
 #define JADVOLNI_FIXED_(name, type)                                                            \
     jadvolni_result jadvolni_parse_##name##_fixed(const char *text, size_t len,                \
@@ -1190,6 +1191,9 @@ size_t jadvolni_fold_quotes(const char *text, size_t len, char *folded, size_t c
 #undef JADVOLNI_WRITES_
 
 /* ---- helpers, written in C: they are tested, and nothing about them is proved ---- */
+
+/* So are two that stand above: jadvolni_format_of_radix, and what jadvolni_parse does for the kind of
+ * `long long` that isn't int64_t or uint64_t. */
 
 /*
  * Reads the column of a part of a text, such as a block of a file: all fields if it is the last part,

@@ -362,7 +362,9 @@ template <class T>
     return detail::called<T>(detail::calls_as<T>::fixed, text, &under);
 }
 
-// Reads the fixed-point number at the beginning of the text as a T. Its place() is where reading stopped.
+// Reads the fixed-point number at the beginning of the text as a T. Its place() is where reading stopped. If more bytes
+// may come, a result at the text's end isn't final, nor is one at a point that ends the text: "12." may continue as
+// "12.5".
 template <class T>
 [[nodiscard]] result<T> parse_fixed_front(std::string_view text, const fixed &under) noexcept
 {

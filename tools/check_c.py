@@ -211,7 +211,8 @@ def install(place: Place) -> str:
     share = f"{below}/usr/share"
     pages = {name[:-2] for name in os.listdir(f"{share}/man/man3")}
     named = {*CALLS, *re.findall(r"jadvolni\w*", text_of("packaging", "jadvolni.3.in"))}
-    wrong = {*CALLS} - pages | {name for name in pages - named if not name.endswith("_column_part")}
+    parts = {f"{it}_part" for it in CALLS if re.fullmatch(r"jadvolni_parse_\w+_column", it)}
+    wrong = ({*CALLS} | parts) - pages | (pages - named - parts)
     if wrong:
         raise Failed(f"no page, or not a word of it there: {sorted(wrong)}")
     missing = {"LICENSE-APACHE", "LICENSE-MIT", "NOTICE"} - set(os.listdir(f"{share}/doc/jadvolni"))
@@ -306,6 +307,27 @@ def man_pages() -> str:
 
 # ---- Rust and Python
 
+def refuse_words(place: Place) -> None:
+    """The examples in Rust end with status 2 where words are missing, also if they can't say so."""
+    for name in ("bad_rows", "settings", "table_threads"):
+        program = place.path(f"target/debug/examples/{name}")
+        for errors in (os.devnull, "/dev/full"):
+            with open(errors, "wb") as device:
+                done = subprocess.run([program], stdin=subprocess.DEVNULL, stderr=device,
+                                      timeout=60)
+            if done.returncode != 2:
+                raise Failed(f"{program} ended with {done.returncode} without words, on {errors}")
+
+
+def start_no_thread(place: Place) -> None:
+    """The example in threads reads all in one, where none has memory for its stack."""
+    path, program = place.path("rows"), place.path("target/debug/examples/table_threads")
+    with open(path, "w", encoding="ascii") as file:
+        file.write("1;rent;-5\n2;;7\n3;;\n")
+    where = {**os.environ, "RUST_MIN_STACK": str(1 << 50)}
+    answer(run([program, path, "3"], where), "3 rows, the greatest amount is 7\n")
+
+
 def cargo(place: Place) -> str:
     """The tests, examples and documents of the two Rust crates, without the network."""
     needs("cargo", "cc")
@@ -321,6 +343,8 @@ def cargo(place: Place) -> str:
     page = run(["cargo", "run", *alone, "--features=std", "--example", "bad_rows", "--", "--help"],
                where, crates)
     answer(page.partition("\n")[0], "usage: bad_rows NAME < FILE")
+    refuse_words(place)
+    start_no_thread(place)
     passed = re.findall(r"(?m)^test result: ok. ([0-9]+) passed", said)
     if shutil.which("cargo-clippy"):
         run(["cargo", "clippy", *alone, "--all-features", "--all-targets", "--", "-D", "warnings"],

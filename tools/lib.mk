@@ -68,7 +68,7 @@ build/jadvolni.wasm: $(LIBRARY_SOURCES)
 # Each call has a manual page that includes jadvolni(3), so that `man jadvolni_parse_u64` works: those that the library
 # exports, and then those that only the header has.
 EXPORTS := $(shell cut -d ' ' -f 1 packaging/symbols.txt)
-CALLS := $(EXPORTS) $(addsuffix _part,$(filter %_column,$(EXPORTS))) \
+CALLS := $(EXPORTS) $(addsuffix _part,$(filter jadvolni_parse_%_column,$(EXPORTS))) \
     $(addprefix jadvolni_,parse format_of_radix status_name status_text table_text)
 PAGES = $(DESTDIR)$(MANDIR)/man3
 TO = $(DESTDIR)$(LIBDIR)

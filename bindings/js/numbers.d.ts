@@ -83,7 +83,8 @@ export function parse<T extends NumberType>(
  * a result at the text's end isn't final: "12" may continue as "123".
  *
  * With places it is an amount. A digit after the last place is a fault. If fewer places are accepted, a
- * point that no digit follows isn't read: "12. And" stops at 2.
+ * point that no digit follows isn't read: "12. And" stops at 2. So does "12.", which isn't final either if
+ * more text may come.
  */
 export function parseFront<T extends NumberType>(
   text: Text,

@@ -47,7 +47,7 @@ def summary(path: str) -> tuple[str, int]:
     """What the command says, and how many bad rows there are."""
     days, cents, bad = entries(path)
     if bad:
-        print(f"bad rows: {len(bad)}, the first: {bad[0]}", file=sys.stderr)
+        command.report(f"bad rows: {len(bad)}, the first: {bad[0]}")
     span = f" from {days[0]} to {days[-1]}" if days else ""
     return f"{len(days)} entries{span}, {Decimal(sum(cents)).scaleb(-2)} in all", len(bad)
 

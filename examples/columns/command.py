@@ -15,8 +15,25 @@ def ask(holds: bool, page: str) -> None:
         write(f"{page.strip()}\n".encode())
         sys.exit()
     if not holds:
-        print(page.strip(), file=sys.stderr)
+        report(page.strip())
         sys.exit(2)
+
+
+def report(message: str) -> None:
+    """Prints what is wrong to standard error. Where that is closed or full, nobody can be told: the
+    status is the same, and nothing goes to standard output instead."""
+    if sys.stderr is None:
+        return
+    try:
+        print(message, file=sys.stderr)
+    except OSError:
+        silence(sys.stderr)
+
+
+def silence(stream) -> None:
+    """Has a stream write to nowhere. At its end Python writes what is buffered: where that can't
+    fail once more."""
+    os.dup2(os.open(os.devnull, os.O_WRONLY), stream.fileno())
 
 
 def write(block: bytes) -> None:
@@ -27,8 +44,7 @@ def write(block: bytes) -> None:
         sys.stdout.buffer.write(block)
         sys.stdout.flush()
     except OSError as error:
-        # At its end Python writes what is buffered: where that can't fail once more.
-        os.dup2(os.open(os.devnull, os.O_WRONLY), sys.stdout.fileno())
+        silence(sys.stdout)
         sys.exit(f"standard output: {error.strerror}")
 
 

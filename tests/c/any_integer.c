@@ -28,5 +28,8 @@ uint64_t misuse(void)
 #elif MISUSE == 5 /* both: unused-result */
     jadvolni_parse("1", 1, &wide);
     return 0;
+#elif MISUSE == 6 /* both: a jadvolni_uint128 or a jadvolni_int128 */
+    __extension__ unsigned __int128 whole = 0;
+    return jadvolni_parse("1", 1, &whole).place;
 #endif
 }

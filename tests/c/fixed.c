@@ -22,6 +22,8 @@
         EXPECT(jadvolni_parse_##name##_fixed, type, cents, "1.234", JADVOLNI_INVALID_DIGIT, 4, 77);  \
         EXPECT(jadvolni_parse_##name##_fixed_front, type, cents, "1.2 EUR", JADVOLNI_OK, 3, 120);    \
         EXPECT(jadvolni_parse_##name##_fixed_front, type, cents, "1. And", JADVOLNI_OK, 1, 100);     \
+        /* not final in a stream, though it stops before the text's end: "1.5" may follow */         \
+        EXPECT(jadvolni_parse_##name##_fixed_front, type, cents, "1.", JADVOLNI_OK, 1, 100);         \
         EXPECT(jadvolni_parse_##name##_fixed, type, cents, most, status, place, 77);                 \
         cents.reserved[12] = 1;                                                                      \
         EXPECT(jadvolni_parse_##name##_fixed, type, cents, "1", JADVOLNI_UNKNOWN_FIELD, 0, 77);      \

@@ -65,6 +65,8 @@ test("faults of whole texts", () => {
 test("fronts", () => {
   assert.deepEqual(parseFront("12.50 EUR", "i64", CENTS), { value: 1250n, stop: 5 });
   assert.deepEqual(parseFront("12. And", "u16", CENTS), { value: 1200, stop: 2 });
+  // Of a stream, this isn't final, though it stops before the text's end.
+  assert.deepEqual(parseFront("12.", "u16", CENTS), { value: 1200, stop: 2 });
   assert.deepEqual(parseFront("-1.234,50 EUR", "i32", EURO), { value: -123450, stop: 9 });
   assert.equal(outcomeOf(() => parseFront("12.505", "u16", CENTS)), "InvalidDigit(5)");
   assert.equal(outcomeOf(() => parseFront("EUR 12", "u16", CENTS)), "Empty(0)");

@@ -31,7 +31,7 @@ def answer_of(name, path, *words, **settings):
     command = [sys.executable, str(EXAMPLES / name), str(path), *words]
     settings = {"stdout": subprocess.PIPE, "stderr": subprocess.PIPE, **settings}
     run = subprocess.run(command, text=True, timeout=60, **settings)
-    return run.returncode, run.stdout, re.sub(f"^{re.escape(str(path))}[:,] ", "", run.stderr)
+    return run.returncode, run.stdout, re.sub(f"^{re.escape(str(path))}[:,] ", "", run.stderr or "")
 
 
 def line_of(told):
@@ -432,6 +432,16 @@ class Inputs(Case):
                 path.write_text(content)
                 answer = answer_of(name, path, *words, preexec_fn=lambda: os.close(1))
                 self.assertEqual(answer, (1, "", "standard output is closed\n"))
+
+    def test_errors_that_nobody_can_read(self):
+        path = self.folder / "input"
+        path.write_text("Day;Amount\n1.1.;1,00\n2.1.;x\n")
+        said = "1 entries from 1.1. to 1.1., 1.00 in all\n"
+        with open("/dev/full", "wb") as full:
+            for theirs in {"stderr": full}, {"preexec_fn": lambda: os.close(2)}:
+                with self.subTest(theirs=theirs):
+                    self.assertEqual(answer_of("accounts.py", path, **theirs)[:2], (1, said))
+                    self.assertEqual(answer_of("accounts.py", path, "more", **theirs)[:2], (2, ""))
 
     def test_words_that_ask_for_the_page(self):
         for name, *words in (*COMMANDS, ("accounts.py",), ("service.py",), ("copy_binary.py",)):

@@ -75,6 +75,10 @@ class FixedPoint(unittest.TestCase):
     def test_fronts(self):
         self.assertEqual(parse_front("12.50 EUR", CENTS), (1250, 5))
         self.assertEqual(parse_front("12. And", FEWER), (1200, 2))
+        # Of a stream, these aren't final, though they stop before the text's end.
+        self.assertEqual(parse_front("12.", FEWER), (1200, 2))
+        self.assertEqual(parse_front("12.", Fixed(places=0)), (12, 2))
+        self.fault("Overflow", 1, parse_front, "3.", Fixed("u8", places=2, takes_fewer=True))
         self.assertEqual(parse_front("12.5x", FEWER), (1250, 4))
         self.fault("InvalidDigit", 5, parse_front, "12.505", CENTS)
         self.fault("Empty", 0, parse_front, "EUR", CENTS)

@@ -159,9 +159,10 @@ def iter_column(
     """Yield the numbers of a file's fields, an array for each block of about `size` bytes.
 
     A field that a block cuts is read with the next one. ParseError counts `field`, `start` and
-    `place` over the whole file; the arrays before it have been yielded. A field of more than `size`
-    bytes is a ValueError, so that no more than two blocks are held. `progress`, such as `update` of
-    a tqdm bar, is called after each block with its number of bytes; if it raises, reading ends.
+    `place` over the whole file; the arrays before it have been yielded. ValueError is raised if
+    a block ends more than `size` bytes into a field, so no more than two blocks are held.
+    `progress`, such as `update` of a tqdm bar, is called after each block with its number of bytes;
+    if it raises, reading ends.
     """
     size = _one_or_more("size", size)
     parted = separator.encode() if isinstance(separator, str) else separator

@@ -88,8 +88,8 @@ def whole_rows(
 ) -> Iterator[Texts]:
     """The whole rows that end in each piece of a file's blocks, and after the last what is left.
 
-    `before` says what stands before them, such as a header. A row of more than `size` bytes is a
-    ValueError where a block ends, so no more than two blocks are held.
+    `before` says what stands before them, such as a header. A block that ends more than `size`
+    bytes into a row is a ValueError, so no more than two blocks are held.
     """
     rest = _Rest(blocks, reader, size, before)
     for piece in pieces:

@@ -28,7 +28,7 @@ fn main() -> ExitCode {
     match run(&words, io::stdout()) {
         Ok(()) => ExitCode::SUCCESS,
         Err(error) => {
-            eprintln!("settings: {error}");
+            let _ = writeln!(io::stderr(), "settings: {error}"); // (eprintln! panics where it can't be written)
             ExitCode::from(2)
         }
     }

@@ -264,6 +264,12 @@ fn the_program() {
     assert!(many.lines().count() == 12 && many.ends_with("\nbad rows: 20\n0\n"), "{many}");
     assert_eq!(run("c", b"a,b\n"), Err(r#"no column "c": the header has "a", "b""#.into()));
     assert_eq!(run("c", b""), Err("the table has no header".into()));
+    let full = std::fs::File::create("/dev/full").unwrap();
+    let told = program::run("b", &b"b\n"[..], full, vec![]).unwrap_err().to_string();
+    assert_eq!(told, "standard output: No space left on device (os error 28)");
+    let folder = std::fs::File::open("/").unwrap();
+    let told = program::run("b", folder, vec![], vec![]).unwrap_err().to_string();
+    assert_eq!(told, "standard input: Is a directory (os error 21)");
 }
 
 // ---- random tables

@@ -108,25 +108,25 @@ fn the_program() {
         std::fs::write(&path, text).unwrap();
         let mut said = vec![];
         let told = run([path.as_ref(), "3".as_ref()], &mut said);
-        told.map_err(|told| told.replace(path.to_str().unwrap(), "FILE"))
+        told.map_err(|(status, told)| (status, told.replace(path.to_str().unwrap(), "FILE")))
             .map(|()| String::from_utf8(said).unwrap())
     };
     let right = answer("1;rent;-80000\n2;\"a;\n\";\n3;;7\n4;;-5");
     assert_eq!(right, Ok("4 rows, the greatest amount is 7\n".into()));
     assert_eq!(answer("1;;\n"), Ok("1 rows, the greatest amount is none\n".into()));
     let wrong = "FILE, line 2, column 3: \"x\": invalid digit at byte 0 of the cell";
-    assert_eq!(answer("1;;2\n3;;x"), Err(wrong.into()));
+    assert_eq!(answer("1;;2\n3;;x"), Err((1, wrong.into())));
     let full = &mut std::fs::File::create("/dev/full").unwrap();
-    let told = run(["/dev/null".as_ref(), "1".as_ref()], full).unwrap_err();
-    assert_eq!(told, "standard output: No space left on device (os error 28)");
-    let told = run([path.as_ref(), "256".as_ref()], full).unwrap_err();
-    assert_eq!(told, "THREADS: overflow at byte 2");
+    let mut fails = |words: [&OsStr; 2]| run(words, full).unwrap_err();
+    let told = fails(["/dev/null".as_ref(), "1".as_ref()]);
+    assert_eq!(told, (2, "standard output: No space left on device (os error 28)".into()));
+    let told = fails([path.as_ref(), "256".as_ref()]);
+    assert_eq!(told, (2, "THREADS: overflow at byte 2".into()));
     std::fs::remove_file(&path).unwrap();
-    let told = run([OsStr::from_bytes(b"/\xFF"), "1".as_ref()], full).unwrap_err();
-    assert_eq!(told, "/\u{FFFD}: No such file or directory (os error 2)");
-    assert_eq!(
-        run(["/".as_ref(), "1".as_ref()], full).unwrap_err(),
-        "/: Is a directory (os error 21)"
-    );
-    assert_eq!(program::run(&[], full).unwrap_err(), "usage: table_threads FILE THREADS");
+    let told = fails([OsStr::from_bytes(b"/\xFF"), "1".as_ref()]);
+    assert_eq!(told, (2, "/\u{FFFD}: No such file or directory (os error 2)".into()));
+    let told = fails(["/".as_ref(), "1".as_ref()]);
+    assert_eq!(told, (2, "/: Is a directory (os error 21)".into()));
+    let told = program::run(&[], vec![]).unwrap_err();
+    assert_eq!(told, (2, "usage: table_threads FILE THREADS".into()));
 }

@@ -56,11 +56,16 @@ fn row_start(piece: &[u8], has_quotes: bool, mut is_within: bool) -> Option<usiz
     piece.iter().position(ends_row).map(|place| place + 1)
 }
 
-/// What a call answers of each item, in a thread for each.
+/// What a call answers of each item, in a thread for each; where the system starts no more threads, in this one.
 fn in_threads<T: Sync, B: Send>(items: &[T], call: impl Fn(&T) -> B + Sync) -> Vec<B> {
     let call = &call;
     thread::scope(|scope| {
-        let running: Vec<_> = items.iter().map(|item| scope.spawn(move || call(item))).collect();
-        running.into_iter().map(|thread| thread.join().unwrap()).collect()
+        let start = |item| thread::Builder::new().spawn_scoped(scope, move || call(item));
+        let running: Vec<_> = items.iter().map(|item| start(item).map_err(|_| item)).collect();
+        let answer = |started: Result<thread::ScopedJoinHandle<'_, B>, &T>| match started {
+            Ok(thread) => thread.join().unwrap(),
+            Err(item) => call(item),
+        };
+        running.into_iter().map(answer).collect()
     })
 }
