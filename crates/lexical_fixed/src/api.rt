@@ -88,9 +88,9 @@ pub trait FromFixed: ParseFixed {
     ///
     /// Of `12.50 EUR` with two places the answer is 1250 and 5. A number isn't cut: in `12.505` the digit behind the last
     /// place is `InvalidDigit(5)`, and without places the point of `12.5` is `InvalidDigit(2)`. Where fewer places are
-    /// taken, a point without a digit behind it isn't read: `12. And` is 1200 and 2. Where all are asked for, `Empty`
-    /// has the place where a digit is missing. So it does in front of a text without digits, unless the format of the
-    /// integer part needs none.
+    /// taken, a point without a digit behind it isn't read: `12. And` is 1200 and 2. So is `12.`, which isn't final if
+    /// more text may come: `12.50` may follow. Where all are asked for, `Empty` has the place where a digit is missing.
+    /// So it does in front of a text without digits, unless the format of the integer part needs none.
     fn from_fixed_partial(
         bytes: &[u8],
         format: &FixedFormat,
