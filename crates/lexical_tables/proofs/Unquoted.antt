@@ -6,7 +6,7 @@ use Rattle.std.proofs.lemmas.List.Sums.{position_or_len_is}
 use Rattle.std.specs.Prelude.{is_some, nat_lt, option_map}
 use Rattle.lexical_fields.specs.Fields.{FieldView}
 use Rattle.lexical_fields.proofs.FieldsInParts.{either}
-use Rattle.lexical_tables.specs.Cells.{begins_with_quote, content, fault_round_number, fault_round_text, first_quote, quote_fault, within_quotes}
+use Rattle.lexical_tables.specs.Cells.{begins_with_quote, fault_round_number, fault_round_text, first_quote, quote_fault}
 use Rattle.lexical_tables.specs.Quotes.{quote}
 use Rattle.lexical_tables.proofs.QuoteSteps.{IsUnbroken, quotes_close, quotes_end, quotes_reach, quotes_start}
 use Rattle.lexical_tables.specs.declared.answers.CellFault.{CellFault}
@@ -52,8 +52,8 @@ quote_first : (text : List ℕ) (place : ℕ) → place < length text → ((k : 
 quote_first text place low none here =
     ap (λ n. cond (nat_lt n (length text)) (Some n) None)
     (position_or_len_is (λ byte. byte == quote) text place 0 (omega (arith, low))
-    (λ k below. sym (ne_eqb (get_or text k 0) quote (none k below)))
-    (λ within. sym (eq-eqb (get_or text place 0) quote here)))
+    (λ k below. ne_eqb (get_or text k 0) quote (none k below))
+    (λ within. eq-eqb (get_or text place 0) quote here))
     ∙ ap (λ t. cond t (Some place) None) (lt-ltb place (length text) low)
 
 -- what stands within the quotes round a text
@@ -98,50 +98,7 @@ module _ (text : List ℕ) (end : ℕ) (quoted : begins_with_quote text ≡ true
         (λ k below same. before (1 + k) (omega arith) (omega (arith, below))
         (sym (held_byte text k (omega (arith, below, room))) ∙ same))
         (held_byte text (end - 1) room ∙ ap (λ n. get_or text n 0) back ∙ found low)))
-    | inr high ↦ absurd_some (quotes_end text end true reach (omega (arith, high)) ∙ fine)
+    | inr high ↦
+        let open_quote = ap is_some (quotes_end text end true reach (omega (arith, high)) ∙ fine) in
+        absurd cc
   ]
-    where
-      absurd_some : Some 0 ≡ None → true ≡ is_some (first_quote (held_of text))
-      absurd_some is = absurd cc
-
--- ---- the quotes of a cell that is read as a text
-
--- a fault is told where a quote is out of place
-told : (f : ℕ → CellFault) (place : Option ℕ) → is_some (option_map f place) ≡ is_some place
-told f None = refl
-told f (Some place) = refl
-
-module _ (cell : FieldView) where
-  fault_of : (begins : Bool) → begins_with_quote cell.text ≡ begins → quote_fault true false cell
-      ≡ option_map (λ place. MisplacedQuote (cell.start + place))
-      (cond begins (fault_round_text cell.text) (first_quote cell.text))
-  fault_of begins is =
-      ap (λ t. option_map (λ place. MisplacedQuote (cell.start + place))
-      (cond t (fault_round_text cell.text) (first_quote cell.text))) is
-
-  -- one that begins with a quote, and one that doesn't
-  pub round_right : begins_with_quote cell.text ≡ true → fault_round_text cell.text ≡ None → quote_fault true false cell ≡ None
-  round_right begins fine =
-      fault_of true begins ∙ ap (option_map (λ place. MisplacedQuote (cell.start + place))) fine
-
-  pub round_wrong : begins_with_quote cell.text ≡ true → is_some (fault_round_text cell.text) ≡ true
-      → is_some (quote_fault true false cell) ≡ true
-  round_wrong begins wrong =
-      ap is_some (fault_of true begins)
-      ∙ told (λ place. MisplacedQuote (cell.start + place)) (fault_round_text cell.text) ∙ wrong
-
-  pub round_holds : begins_with_quote cell.text ≡ true → (content true false cell).text ≡ held_of cell.text
-  round_holds begins = ap (λ t. (cond t (within_quotes cell) cell).text) begins
-
-  pub bare_right : begins_with_quote cell.text ≡ false → first_quote cell.text ≡ None → quote_fault true false cell ≡ None
-  bare_right begins fine =
-      fault_of false begins ∙ ap (option_map (λ place. MisplacedQuote (cell.start + place))) fine
-
-  pub bare_wrong : begins_with_quote cell.text ≡ false → is_some (first_quote cell.text) ≡ true
-      → is_some (quote_fault true false cell) ≡ true
-  bare_wrong begins wrong =
-      ap is_some (fault_of false begins)
-      ∙ told (λ place. MisplacedQuote (cell.start + place)) (first_quote cell.text) ∙ wrong
-
-  pub bare_holds : begins_with_quote cell.text ≡ false → (content true false cell).text ≡ cell.text
-  bare_holds begins = ap (λ t. (cond t (within_quotes cell) cell).text) begins

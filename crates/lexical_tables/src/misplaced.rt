@@ -1,6 +1,6 @@
 //! Whether the quotes of a cell are in place.
 
-ghost use Rattle.std.specs.Prelude.{◌≡◌, ◌≢◌, ◌&&◌, ◌+◌, ◌-◌, ◌<◌, ◌≤◌, ◌^◌, ℕ, length, take, drop, slice_index, true, is_some, IfSome, IsNone, None};
+ghost use Rattle.std.specs.Prelude.{◌≡◌, ◌≢◌, ◌&&◌, ◌+◌, ◌-◌, ◌<◌, ◌≤◌, ◌^◌, ℕ, length, take, drop, slice_index, false, true, is_some, IfSome, IsNone, None};
 ghost use Rattle.lexical_tables.specs.Cells.{begins_with_quote, content, fault_round_number, fault_round_text, first_quote, misplaced_quote, quote_fault, view_of_cell};
 ghost use Rattle.lexical_tables.specs.Quotes.{quote};
 
@@ -102,22 +102,19 @@ fn doubled_round_text(text: &[u8]) -> Option<bool>
 #[inline(always)]
 pub(crate) fn doubled_quotes(has_quotes: bool, cell: Cell<'_>) -> Option<bool>
     ensures fine { IfSome result
-        (λ doubled. quote_fault has_quotes false (view_of_cell cell) ≡ None) }
+        (λ doubled. quote_fault has_quotes false (view_of_cell cell.entry) ≡ None) }
     ensures doubled { IfSome result (λ doubled. doubled ≡ (has_quotes
-        && is_some (first_quote (content has_quotes false (view_of_cell cell)).text))) }
+        && is_some (first_quote (content has_quotes false (view_of_cell cell.entry)).text))) }
     ensures wrong { IsNone result
-        → is_some (quote_fault has_quotes false (view_of_cell cell)) ≡ true }
+        → is_some (quote_fault has_quotes false (view_of_cell cell.entry)) ≡ true }
 {
-    if !has_quotes {
-        return Some(false);
-    }
-    if begins_with_quote(cell.text) {
+    if has_quotes && begins_with_quote(cell.text) {
         return doubled_round_text(cell.text);
     }
-    match first_quote(cell.text) {
-        None => Some(false),
-        Some(_) => None,
+    if has_quotes && first_quote(cell.text).is_some() {
+        return None;
     }
+    Some(false)
 }
 
 // The first quote out of place in a text.
