@@ -1,11 +1,11 @@
 -- What a column says of all its cells, as a byte.
 -- 0: nothing is known, and the column is asked at each cell. 1: its cells aren't read. 2: they are
--- texts. 3: they are numbers, which the column is asked for at each cell. 4: they are amounts, which
--- it reads as such. 5: they are numbers, which it parses. 6: they are numbers, which it parses, and
--- each cell is a number alone, without quotes, blanks or a mark. 8 and more: decimal digits behind an
--- optional minus are read as numbers of u8, u16, u32, u64, i8, i16, i32 or i64, in this order,
--- whatever else the format allows. 16 is added where a number may be missing, and 32 where no zero
--- may stand in front of another digit.
+-- texts. 3: they are numbers, which the column is asked for at each cell. 4: they are amounts,
+-- which it reads as such. 5: they are numbers, which it parses. 6: they are numbers, which it
+-- parses, and each cell is a number alone, without quotes, blanks or a mark. 8 and more: decimal
+-- digits behind an optional minus are read as numbers of u8, u16, u32, u64, i8, i16, i32 or i64, in
+-- this order, whatever else the format allows. 16 is added where a number may be missing, and 32
+-- where no zero may stand in front of another digit.
 use Rattle.std.specs.Prelude.{◌≡◌, ◌-◌, ◌*◌, ◌%◌, ◌^◌, ◌<◌, ◌≤◌, ◌⊎◌, ℕ, Bool, false, true, IsTrue, List, get_or, length, nat_le, slice_index, Option, Some, None, is_some, option_map}
 use Rattle.lexical_util.specs.Format.{Format}
 use Rattle.lexical_util.specs.Number.{IntegerType, IsNumber, integer_type}
