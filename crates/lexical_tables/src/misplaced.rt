@@ -55,8 +55,8 @@ fn next_quote(text: &[u8], place: usize) -> usize
     place + field_length(&text[place..], b'"')
 }
 
-// The quote out of place in a text that begins with one, if nothing is read of it: from quote to quote, since most bytes
-// are none.
+// The quote out of place in a text that begins with one, if no number is read of it: from quote to
+// quote, since most bytes are none.
 fn fault_round_text(text: &[u8]) -> Option<usize>
     requires quoted { begins_with_quote text.now ≡ true }
     ensures place { result ≡ fault_round_text text.now }
