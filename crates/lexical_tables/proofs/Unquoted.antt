@@ -1,5 +1,5 @@
 -- A cell whose quotes are in place, since it has none, or quotes have no meaning.
-use Rattle.std.proofs.Common.{◌≡◌, ◌≢◌, ◌∙◌, ℕ, ◌+◌, ◌-◌, ◌<◌, ◌≤◌, ◌==◌, Bool, true, false, cond, eq-eqb, List, [], ◌∷◌, length, take, drop, get_or, get_or-drop, length-drop, length-take-le, Option, Some, None, refl, ap, sym, arith, inl, inr}
+use Rattle.std.proofs.Common.{◌≡◌, ◌≢◌, ◌∙◌, ℕ, ◌+◌, ◌-◌, ◌<◌, ◌≤◌, ◌==◌, Bool, true, false, cond, eq-eqb, List, [], ◌∷◌, length, take, drop, get_or, get_or-drop, length-drop, length-take-le, Some, None, refl, ap, sym, arith, inl, inr}
 use Rattle.std.proofs.lemmas.Bool.{and_right, cases_lt, eqb-true, le-ltb, lt-ltb, ne_eqb}
 use Rattle.std.proofs.lemmas.List.{get_or-take}
 use Rattle.std.proofs.lemmas.List.Sums.{position_or_len_is}
@@ -9,7 +9,6 @@ use Rattle.lexical_fields.proofs.FieldsInParts.{either}
 use Rattle.lexical_tables.specs.Cells.{begins_with_quote, fault_round_number, fault_round_text, first_quote, quote_fault}
 use Rattle.lexical_tables.specs.Quotes.{quote}
 use Rattle.lexical_tables.proofs.QuoteSteps.{IsUnbroken, quotes_close, quotes_end, quotes_reach, quotes_start}
-use Rattle.lexical_tables.specs.declared.answers.CellFault.{CellFault}
 use Rattle.lexical_tables.specs.declared.answers.CellFault.TheVariants.{MisplacedQuote}
 
 -- no quote is found where a cell has none
