@@ -38,20 +38,6 @@ none_more s text start place so_far room within before = record { within = omega
               ∙ ap (λ j. get_or text j 0) at ∙ is)
         ]
 
--- none stands before a place of what is behind the text's first bytes, nor among these
-pub none_behind : (s : ℕ) (text bytes : List ℕ) (first place : ℕ) → bytes ≡ drop first text
-    → ((k : ℕ) → k < first → get_or text k 0 ≢ s) → ((k : ℕ) → k < place → get_or bytes k 0 ≢ s)
-    → (k : ℕ) → k < first + place → get_or text k 0 ≢ s
-none_behind s text bytes first place behind none before k low =
-    elim (cases_lt k first) [
-      | inl lt ↦ none k lt
-      | inr ge ↦
-          let at : first + (k - first) ≡ k = omega arith in
-          λ is. before (k - first) (omega arith)
-          (ap (λ l. get_or l (k - first) 0) behind
-          ∙ get_or-drop first text (k - first) 0 ∙ ap (λ j. get_or text j 0) at ∙ is)
-    ]
-
 other : (x b : ℕ) → x ≢ b → not (eqb x b) ≡ true
 other x b apart = elim (eqb_tells x b) [ inl is ↦ absurd (apart is.1) | inr is ↦ ap not is.0 ]
 

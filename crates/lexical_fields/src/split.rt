@@ -22,43 +22,24 @@ pub fn field_length(text: &[u8], separator: u8) -> usize
         }
         start += 16;
     }
-    if text.len() < 16 {
-        end_by_bytes(text, separator)
-    } else {
-        end_in_last_16(text, separator)
-    }
+    end_from(text, separator, start)
 }
 
-// Where the first field of a short text ends.
+// Where the first field ends, if no separator stands before a place.
 #[inline(always)]
-fn end_by_bytes(text: &[u8], separator: u8) -> usize
+fn end_from(text: &[u8], separator: u8, start: usize) -> usize
+    requires start { start ≤ length text.now }
+    requires none { (k : ℕ) → k < start → slice_index text.now k ≢ separator }
     ensures within { result ≤ length text.now }
     ensures before { (k : ℕ) → k < result → slice_index text.now k ≢ separator }
     ensures found { result < length text.now → slice_index text.now result ≡ separator }
 {
-    for i in 0..text.len() {
+    for i in start..text.len() {
         if text[i] == separator {
             return i;
         }
     }
     text.len()
-}
-
-// Where the first field ends, if no separator stands in front of the last sixteen bytes: one look at these finds it, wherever
-// sixteen bytes at a time end.
-#[inline(always)]
-fn end_in_last_16(text: &[u8], separator: u8) -> usize
-    requires long { 16 ≤ length text.now }
-    requires none { (k : ℕ) → k + 16 < length text.now → slice_index text.now k ≢ separator }
-    ensures within { result ≤ length text.now }
-    ensures before { (k : ℕ) → k < result → slice_index text.now k ≢ separator }
-    ensures found { result < length text.now → slice_index text.now result ≡ separator }
-{
-    let last = text.len() - 16;
-    match first_of_16(&text[last..], separator) {
-        Some(place) => last + place,
-        None => text.len(),
-    }
 }
 
 // The first field, and what is behind its separator.

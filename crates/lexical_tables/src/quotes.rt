@@ -35,19 +35,9 @@ fn marked_length(text: &[u8], separator: u8) -> usize
 {
     let marks = next_marks(text, 0, separator);
     if marks == 0 {
-        return unmarked_length(text, separator);
+        return field_length(text, separator);
     }
     split_marked(text, marks, separator).0
-}
-
-// How many they are where that look finds none. Out of line, to keep registers for the loops over rows: few lines are so long, or
-// so near the text's end.
-#[inline(never)]
-fn unmarked_length(text: &[u8], separator: u8) -> usize
-    ensures value { result ≡ field_length separator text.now }
-    ensures within { result ≤ length text.now }
-{
-    field_length(text, separator)
 }
 
 // How many they are: by a look at sixteen bytes, as most lines end among these, and then by a loop, which has more to keep. Out of line, since

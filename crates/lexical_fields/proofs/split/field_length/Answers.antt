@@ -35,15 +35,7 @@ loop-start-preserved c =
     none_more c.args.separator c.args.text.now c.loop-start.start 16 c.loop-start.invariant
     (omega (arith, c.loop-start.invariant.within)) (omega arith) (c.in_default.ensures.none refl)
 
-pub returns-then-text-lt16-clause-value : goal.returns-then-text-lt16-clause-value
-returns-then-text-lt16-clause-value c =
-    field_is c.args.separator c.args.text.now c.end_by_bytes.result c.end_by_bytes.ensures.within
-    c.end_by_bytes.ensures.before c.end_by_bytes.ensures.found
-
-pub end_in_last_16-requires-clause-none : goal.end_in_last_16-requires-clause-none
-end_in_last_16-requires-clause-none c = λ k low. c.loop-start.invariant.none k (omega (arith, low))
-
-pub returns-else-text-lt16-clause-value : goal.returns-else-text-lt16-clause-value
-returns-else-text-lt16-clause-value c =
-    field_is c.args.separator c.args.text.now c.end_in_last_16.result c.end_in_last_16.ensures.within
-    c.end_in_last_16.ensures.before c.end_in_last_16.ensures.found
+pub returns-clause-value : goal.returns-clause-value
+returns-clause-value c =
+    field_is c.args.separator c.args.text.now c.end_from.result c.end_from.ensures.within
+    c.end_from.ensures.before c.end_from.ensures.found

@@ -1,5 +1,5 @@
 use Rattle.std.proofs.Common.{◌≡◌, ℕ, ◌<◌, slice_index}
-use Rattle.lexical_fields.proofs.split.end_by_bytes.Given as goal
+use Rattle.lexical_fields.proofs.split.end_from.Given as goal
 
 -- no separator so far
 abbrev pub invariant-loop-i : goal.invariant-loop-i
