@@ -26,7 +26,7 @@ no_ends q s text = record {
 
 -- ---- what the search sees behind some bytes
 
--- whether what is behind so many bytes stands within quotes, where the first does or doesn't
+-- whether what is behind the first n bytes stands within quotes, where w says so of the first byte
 abbrev pub within_behind : Bool → Bool → ℕ → List ℕ → Bool
 within_behind q w zero text = w
 within_behind q w (suc n) [] = w
@@ -241,7 +241,8 @@ module _ (q : Bool) (s : ℕ) (text : List ℕ) (r : ℕ) (apart : q ≡ true �
 
 -- ---- the lowest mark of a look
 
--- Of some bytes of a text from a place on, so many, those are marked by a bit where a cell ends, and no other bit is set.
+-- Of the `seen` bytes of a text from a place on, a bit of m marks each at which a cell ends, and no
+-- other bit is set.
 pub record AreEndsFrom (q : Bool) (s : ℕ) (text : List ℕ) (place m : ℕ) : Type 0 where
   pub seen : ℕ
   pub few : seen ≤ 64

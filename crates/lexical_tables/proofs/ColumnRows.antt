@@ -16,7 +16,7 @@ use Rattle.lexical_tables.specs.declared.answers.CellFault.TheVariants.{Misplace
 use Rattle.lexical_tables.specs.declared.dialect.Dialect.{Dialect}
 use Rattle.lexical_tables.specs.declared.dialect.Layout.TheVariants.{Separated}
 
--- so many columns between commas, with returns or without, and nothing else
+-- `columns` columns between commas, with returns or without, and nothing else
 abbrev pub plain : ℕ → Bool → Dialect
 plain columns has_returns = record {
   layout = Separated 44 columns;

@@ -16,11 +16,12 @@ use Rattle.lexical_tables.proofs.RowSteps.{HasRowsOf, next_row, no_rows, piece_g
 abbrev rows_left : Dialect → List ℕ → List ℕ → List RowView
 rows_left d text rest = rows_from d (length text - length rest) rest
 
--- the rows that are left to read, of so many at most
+-- the rows that are left to read, if `count` of at most `room` rows were read
 abbrev pub left_to_read : Dialect → ℕ → List ℕ → ℕ → List ℕ → List RowView
 left_to_read d room text count rest = take (room - count) (rows_left d text rest)
 
--- So many rows were read, and what is read of those that are left, with them, is what is read of the text.
+-- `count` rows were read. With what is read of those that are left, that is what is read of the
+-- text.
 pub record IsTablePut (d : Dialect) (room : ℕ) (text : List ℕ) (old now : List (Option TargetView))
     (count : ℕ) (rest : List ℕ) : Type 0 where
   pub within : length rest ≤ length text

@@ -105,7 +105,7 @@ folded_short text = omega (arith, short_to text (length text), ap length (folded
 
 -- ---- the loops
 
--- So many bytes were read, and they are so many, folded.
+-- The first `place` bytes were read, and folded, they are `size` bytes.
 pub record IsFolded (text : List ℕ) (place size : ℕ) (odd : Bool) : Type 0 where
   pub low : place ≤ length text
   pub few : size ≤ place
@@ -198,7 +198,7 @@ fold_ends text place size odd reading all =
     let end : place ≡ length text = omega (arith, reading.low) in
     reading.size_is ∙ ap (λ k. length (folded_to text k)) end ∙ ap length (sym (folded_is text))
 
--- So many bytes were read, and written, folded.
+-- The first `place` bytes were read, and written, folded, as `size` bytes.
 pub record IsFoldPut (text : List ℕ) (place size : ℕ) (odd : Bool) (old now : List ℕ) : Type 0 where
   pub reading : IsFolded text place size odd
   pub put : now ≡ folded_to text place ++ drop size old

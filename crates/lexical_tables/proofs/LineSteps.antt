@@ -13,7 +13,8 @@ none_of (x ∷ xs) e = absurd (omega arith)
 
 -- ---- quotes that are counted
 
--- So many bytes were counted.
+-- The quotes among the first `place` bytes were counted, and `odd` says whether their number is
+-- odd.
 pub record IsCounted (text : List ℕ) (place : ℕ) (odd : Bool) : Type 0 where
   pub low : place ≤ length text
   pub odd_is : odd ≡ has_odd_quotes (take place text)
@@ -41,7 +42,8 @@ count_ends text place odd counted all =
 
 -- ---- lines
 
--- So many lines are still to be stepped over, and what is behind them is what is looked for.
+-- `left` lines of `rest` are still to be stepped over. What is behind them is what is behind the
+-- first `count` lines of the text.
 pub record IsOnTheWay (q : Bool) (text : List ℕ) (count left : ℕ) (rest : List ℕ) : Type 0 where
   pub within : length rest ≤ length text
   pub behind_is : behind_lines q left rest ≡ behind_lines q count text

@@ -17,7 +17,7 @@ pub byte_of : (text : List ℕ) (place n k : ℕ) → k < n
     → get_or (slice_range text place (place + n)) k 0 ≡ get_or text (place + k) 0
 byte_of text place n k low = get_or-take (place + n - place) _ k 0 (omega arith) ∙ get_or-drop place text k 0
 
--- marks of so many bytes from a place on, where they are a byte
+-- `marks` has a bit for each of the n bytes from a place on, set where it is `byte`
 abbrev pub AreSeen : ℕ → List ℕ → ℕ → ℕ → ℕ → Type 0
 AreSeen byte text place n marks = (k : ℕ) → k < n → bit_at marks k ≡ cond (eqb (get_or text (place + k) 0) byte) 1 0
 

@@ -43,7 +43,7 @@ pub record IsAhead (row ahead rest : List ℕ) : Type 0 where
   pub within : length rest ≤ length row
   pub front : rest ≡ take (length rest) (drop (length row - length rest) ahead)
 
--- behind so many bytes of the row
+-- behind the first `passed` bytes of the row
 pub ahead_starts : (row ahead : List ℕ) (passed : ℕ) → passed ≤ length row → row ≡ take (length row) ahead
     → IsAhead row ahead (drop passed row)
 ahead_starts row ahead passed low front =

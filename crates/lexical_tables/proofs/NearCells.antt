@@ -22,7 +22,7 @@ module _ (rest ahead : List ℕ) (front : rest ≡ take (length rest) ahead) whe
       odd : has_odd_quotes (take k rest) ≡ has_odd_quotes (take k ahead)
       odd = ap has_odd_quotes (ap (take k) front ∙ take-take k (length rest) ahead (omega (arith, low)))
 
-  -- no quote is among so many bytes
+  -- none of the first `size` bytes is a quote
   pub near_unquoted : (quotes size : ℕ) → AreSeen quote ahead 0 16 quotes → size ≤ 16 → size ≤ length rest
       → ((k : ℕ) → k < size → bit_at quotes k ≡ 0) → (k : ℕ) → k < size → get_or rest k 0 ≢ quote
   near_unquoted quotes size seen most within none k low same =

@@ -56,7 +56,8 @@ whole_cons q w s place [] h = cc
 whole_cons q w s place (byte ∷ rest) h =
     rw h (by_cons q w s place byte (take (whole q (turned q w byte) s rest) rest))
 
--- behind so many bytes that are whole fields, whether quotes are open: not behind a separator
+-- Whether quotes are open behind the first n bytes, which are whole fields: not behind a separator,
+-- so only where n is 0 and they were open before.
 abbrev left_open : ℕ → Bool → Bool
 left_open zero w = w
 left_open (suc n) w = false
@@ -106,7 +107,8 @@ split q w s place (byte ∷ rest) more none =
           ]
     ]
 
--- the fields of a text and more are those of so many bytes of it, and then those of all that is left
+-- The fields of a text and more are those of its first bytes that are whole fields, and then those
+-- of all that is left.
 pub split_outside : (q : Bool) (s place : ℕ) (text more : List ℕ)
     → fields_outside q s place (text ++ more) ≡ fields_outside q s place (take (whole_outside q s text) text)
     ++ fields_outside q s (place + whole_outside q s text) (drop (whole_outside q s text) text ++ more)

@@ -8,7 +8,7 @@ use Rattle.std.proofs.lemmas.Nat.{pow_pos}
 use Rattle.std.proofs.Math.Nat.{mod-add-div'}
 use Rattle.lexical_tables.specs.Looks.{bits_below}
 
--- how many of so many bits are set, of which the last is at a place
+-- how many of the last n bits up to a place are set
 abbrev pub among : ℕ → ℕ → ℕ → ℕ
 among marks zero place = 0
 among marks (suc n) zero = bit_at marks 0
@@ -50,7 +50,7 @@ among_all marks (suc n) (suc k) low =
     turned : (a b : ℕ) → a + b ≡ b + a
     turned a b = omega arith
 
--- whether an odd number of so many marks up to each place is set
+-- whether an odd number of the last n marks up to each place is set, as a bit of `odd`
 abbrev pub AreOdd : ℕ → ℕ → ℕ → Type 0
 AreOdd marks n odd = (k : ℕ) → k < 64 → bit_at odd k ≡ among marks n k % 2
 
@@ -82,7 +82,7 @@ odd_of_twice marks n odd twice are low high k below = elim (cases_lt k n) [
     halves : (a b : ℕ) → (a % 2 + b % 2) % 2 ≡ (a + b) % 2
     halves a b = omega arith
 
--- ---- a number and its marks so many places below
+-- ---- a number and its marks `by` places below
 
 kept : (a k : ℕ) → k < 64 → bit_at (a % 2 ^ 64) k ≡ bit_at a k
 kept a k low =

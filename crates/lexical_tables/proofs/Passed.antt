@@ -16,7 +16,7 @@ use Rattle.lexical_tables.proofs.QuoteSteps.{next_within}
 pub passes_none : (s : ℕ) (text : List ℕ) → IsPassed s text 0 false
 passes_none s text = record { low = omega arith; within = refl; none = λ k low. absurd (omega arith) }
 
--- the marks of separators outside quotes among so many bytes from a place on
+-- `found` marks the separators outside quotes among the n bytes from a place on
 abbrev pub AreFound : ℕ → List ℕ → ℕ → ℕ → ℕ → Type 0
 AreFound s text place n found = (k : ℕ) → k < n → bit_at found k ≡ cond (eqb (seen_at s text (place + k)) s) 1 0
 

@@ -17,7 +17,8 @@ pub next_within : (text : List ℕ) (place : ℕ) → place < length text → ha
 next_within text place low =
     ap has_odd_quotes (take_more text place 0 low) ∙ odd_behind (take place text) (get_or text place 0)
 
--- So many bytes of a text that begins with a quote are in place, and whether the next one stands within quotes.
+-- The first `place` bytes of a text that begins with a quote are in place, and `is_within` says
+-- whether the next one stands within quotes.
 pub record IsUnbroken (text : List ℕ) (place : ℕ) (is_within : Bool) : Type 0 where
   pub some : 0 < place
   pub low : place ≤ length text
@@ -101,7 +102,7 @@ module _ (text : List ℕ) (place : ℕ) (is_within : Bool) (reading : IsUnbroke
 
 -- ---- from quote to quote
 
--- so many bytes within quotes are no quotes
+-- n bytes within quotes, none of which is a quote, are in place
 quotes_pass : (text : List ℕ) (place n : ℕ) → IsUnbroken text place true → place + n ≤ length text
     → ((k : ℕ) → k < n → get_or text (place + k) 0 ≢ quote) → IsUnbroken text (place + n) true
 quotes_pass text place zero reading low none =

@@ -154,7 +154,7 @@ module _ (d : Dialect) (column : ℕ) (kinds : List (Option Kind)) where
           let at = fault_at index row error (same ∙ is) in
           (omega (arith, at.0), omega (arith, at.0))
 
-  -- so many cells of the column are read, up to a fault
+  -- how many cells of the column are read, up to a fault
   abbrev read_to : TableError → ℕ
   read_to error = cond (nat_lt column error.column) (error.row + 1) error.row
 
@@ -277,7 +277,7 @@ module _ (targets : List (Option TargetView)) (d : Dialect) (room : ℕ) (text :
   abbrev table : Table
   table = record { rows = length lines; stop = next_start (length text) (drop room (rows d text)) }
 
-  -- what a column gets of so many rows without the others
+  -- what a column gets of the first `count` rows without the other columns
   put_alone : (count : ℕ) → slice_get (columns_put d count text (only column targets)) column
       ≡ put_column d column (kinds_of targets) 0
       (values_to_fault (only column (kinds_of targets)) d 0 (take count (rows d text))) (slice_get targets column)

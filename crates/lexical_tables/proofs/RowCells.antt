@@ -99,7 +99,7 @@ cells_few (Records widths) q place text = widths_few widths.now place text
 -- ---- one after another
 
 module _ (d : Dialect) (row : RowView) (first : ℕ) (old : List CellPlace) where
-  -- Where so many cells of a row are was put.
+  -- Where the first `column` cells of a row are was stored, from the cell `first` on.
   pub record ArePut (here : List CellPlace) (column : ℕ) (ended : Bool) (rest : List ℕ) : Type 0 where
     pub within : length rest ≤ length row.text
     pub there : ended ≡ false → lacks_cell d.layout column rest ≡ false

@@ -101,7 +101,7 @@ row_by takes asks line ended = record {
   lacks_return = (asks && ended) && not (ends_in carriage_return line.text);
 }
 
--- a row that starts so many bytes further behind
+-- a row, if it stands `bytes` bytes further on
 abbrev pub row_behind : ℕ → RowView → RowView
 row_behind bytes row = record { start = bytes + row.start; text = row.text; lacks_return = row.lacks_return }
 
@@ -139,7 +139,8 @@ outside_moved q s size place text =
     sym (long_moved size (fields_from s place (seen q s text)) text)
     ∙ ap (λ l. as_long_as l text) (fields_moved s size place (seen q s text))
 
--- what is made of a text, is made of so many bytes and of those that are left
+-- What is made of a text and more is what is made of the text's first `size` bytes, and then of all
+-- that is left.
 abbrev SplitsAt : (List ℕ → List RowView) → List ℕ → List ℕ → ℕ → Type 0
 SplitsAt made part more size =
     made (part ++ more) ≡ made (take size part) ++ map (row_behind size) (made (drop size part ++ more))

@@ -1,13 +1,14 @@
 -- A cell whose quotes are in place, since it has none, or quotes have no meaning.
-use Rattle.std.proofs.Common.{◌≡◌, ◌≢◌, ◌∙◌, ℕ, ◌+◌, ◌<◌, ◌==◌, ◌&&◌, Bool, true, false, cond, List, [], ◌∷◌, length, drop, get_or, Option, Some, None, refl, ap, sym, arith, inl, inr}
-use Rattle.std.proofs.lemmas.Bool.{and_right, eqb-true, le-ltb}
+use Rattle.std.proofs.Common.{◌≡◌, ◌≢◌, ◌∙◌, ℕ, ◌+◌, ◌-◌, ◌<◌, ◌≤◌, ◌==◌, Bool, true, false, cond, eq-eqb, List, [], ◌∷◌, length, take, drop, get_or, get_or-drop, length-drop, length-take-le, Some, None, refl, ap, sym, arith, inl, inr}
+use Rattle.std.proofs.lemmas.Bool.{and_right, cases_lt, eqb-true, le-ltb, lt-ltb, ne_eqb}
+use Rattle.std.proofs.lemmas.List.{get_or-take}
 use Rattle.std.proofs.lemmas.List.Sums.{position_or_len_is}
 use Rattle.std.specs.Prelude.{is_some, nat_lt, option_map}
 use Rattle.lexical_fields.specs.Fields.{FieldView}
 use Rattle.lexical_fields.proofs.FieldsInParts.{either}
-use Rattle.lexical_tables.specs.Cells.{begins_with_quote, content, fault_round_number, fault_round_text, first_quote, quote_fault, within_quotes}
+use Rattle.lexical_tables.specs.Cells.{begins_with_quote, fault_round_number, fault_round_text, first_quote, quote_fault}
 use Rattle.lexical_tables.specs.Quotes.{quote}
-use Rattle.lexical_tables.specs.declared.answers.CellFault.{CellFault}
+use Rattle.lexical_tables.proofs.QuoteSteps.{IsUnbroken, quotes_close, quotes_end, quotes_reach, quotes_start}
 use Rattle.lexical_tables.specs.declared.answers.CellFault.TheVariants.{MisplacedQuote}
 
 -- no quote is found where a cell has none
@@ -42,25 +43,61 @@ unquoted_fault true is_read cell none =
     (first_quote cell.text))) (begins_unquoted cell.text none)
     ∙ ap (option_map (λ place. MisplacedQuote (cell.start + place))) (no_quote_first cell.text none))
 
--- a place that isn't told is none
-no_place : (f : ℕ → CellFault) (place : Option ℕ) → option_map f place ≡ None → is_some place ≡ false
-no_place f None none = refl
-no_place f (Some place) none = absurd cc
+-- ---- the quotes of a text
 
--- Where a cell's quotes are in place, only one that begins with a quote holds others.
-pub doubled_is : (q : Bool) (cell held : FieldView) → quote_fault q false cell ≡ None → held ≡ content q false cell
-    → ((q && begins_with_quote cell.text) && is_some (first_quote held.text)) ≡ (q && is_some (first_quote held.text))
-doubled_is false cell held fine is = refl
-doubled_is true cell held fine is = by_quote (begins_with_quote cell.text) refl
-  where
-    by_quote : (begins : Bool) → begins_with_quote cell.text ≡ begins
-        → (begins_with_quote cell.text && is_some (first_quote held.text)) ≡ is_some (first_quote held.text)
-    by_quote true begins = ap (λ t. t && is_some (first_quote held.text)) begins
-    by_quote false begins =
-        let same : held ≡ cell = is ∙ ap (λ t. cond t (within_quotes cell) cell) begins in
-        let told : option_map (λ place. MisplacedQuote (cell.start + place)) (first_quote cell.text) ≡ None =
-        sym (ap (λ t. option_map (λ place. MisplacedQuote (cell.start + place))
-        (cond t (fault_round_text cell.text) (first_quote cell.text))) begins) ∙ fine in
-        ap (λ t. t && is_some (first_quote held.text)) begins
-        ∙ sym (ap (λ h. is_some (first_quote h.text)) same
-        ∙ no_place (λ place. MisplacedQuote (cell.start + place)) (first_quote cell.text) told)
+-- a text's first quote, with none in front of it
+quote_first : (text : List ℕ) (place : ℕ) → place < length text → ((k : ℕ) → k < place → get_or text k 0 ≢ quote)
+    → get_or text place 0 ≡ quote → first_quote text ≡ Some place
+quote_first text place low none here =
+    ap (λ n. cond (nat_lt n (length text)) (Some n) None)
+    (position_or_len_is (λ byte. byte == quote) text place 0 (omega (arith, low))
+    (λ k below. ne_eqb (get_or text k 0) quote (none k below))
+    (λ within. eq-eqb (get_or text place 0) quote here))
+    ∙ ap (λ t. cond t (Some place) None) (lt-ltb place (length text) low)
+
+-- what stands within the quotes round a text
+abbrev pub held_of : List ℕ → List ℕ
+held_of text = take (length (drop 1 text) - 1) (drop 1 text)
+
+held_size : (text : List ℕ) → length (held_of text) ≡ length text - 1 - 1
+held_size text =
+    length-take-le (length (drop 1 text) - 1) (drop 1 text) (omega arith) ∙ ap (λ n. n - 1) (length-drop 1 text)
+
+held_byte : (text : List ℕ) (k : ℕ) → k < length (held_of text) → get_or (held_of text) k 0 ≡ get_or text (1 + k) 0
+held_byte text k low =
+    get_or-take (length (drop 1 text) - 1) (drop 1 text) k 0 (omega (arith, low, held_size text, length-drop 1 text))
+    ∙ get_or-drop 1 text k 0
+
+-- The first quote behind the one that a text begins with.
+module _ (text : List ℕ) (end : ℕ) (quoted : begins_with_quote text ≡ true) (from : 1 ≤ end) (within : end ≤ length text)
+    (before : (k : ℕ) → 1 ≤ k → k < end → get_or text k 0 ≢ quote) (found : end < length text → get_or text end 0 ≡ quote) where
+  reach : IsUnbroken text end true
+  reach = quotes_reach text 1 end (quotes_start text quoted) from within before
+
+  -- where it is the last byte, all quotes are in place
+  pub last_is_right : end + 1 ≡ length text → fault_round_text text ≡ None
+  last_is_right last =
+      let low : end < length text = omega (arith, last) in
+      sym (quotes_end text (end + 1) false (quotes_close text end reach low (found low)) (omega (arith, last)))
+
+  -- and none is doubled
+  pub last_is_alone : end + 1 ≡ length text → false ≡ is_some (first_quote (held_of text))
+  last_is_alone last =
+      sym (ap is_some (no_quote_first (held_of text) (λ k low same.
+      before (1 + k) (omega arith) (omega (arith, low, held_size text, last))
+      (sym (held_byte text k low) ∙ same))))
+
+  -- else a doubled one stands there, if all are in place
+  pub other_is_doubled : end + 1 ≢ length text → fault_round_text text ≡ None → true ≡ is_some (first_quote (held_of text))
+  other_is_doubled other fine = elim (cases_lt end (length text)) [
+    | inl low ↦
+        let back : 1 + (end - 1) ≡ end = omega (arith, from) in
+        let room : end - 1 < length (held_of text) = omega (arith, low, other, from, held_size text) in
+        sym (ap is_some (quote_first (held_of text) (end - 1) room
+        (λ k below same. before (1 + k) (omega arith) (omega (arith, below))
+        (sym (held_byte text k (omega (arith, below, room))) ∙ same))
+        (held_byte text (end - 1) room ∙ ap (λ n. get_or text n 0) back ∙ found low)))
+    | inr high ↦
+        let open_quote = ap is_some (quotes_end text end true reach (omega (arith, high)) ∙ fine) in
+        absurd cc
+  ]

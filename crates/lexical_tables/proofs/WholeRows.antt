@@ -59,7 +59,7 @@ whole_zero s (b ∷ bs) is = ap (λ t. cond t (suc (whole_fields s bs)) 0) (any_
 
 -- ---- of what is left
 
--- So many bytes are whole lines, and those of what is left are the others.
+-- The bytes in front of `rest` are whole lines, and the others are those of `rest`.
 pub record IsPassed (q : Bool) (text rest : List ℕ) : Type 0 where
   pub within : length rest ≤ length text
   pub whole_is : whole_lines q text ≡ length text - length rest + whole_lines q rest

@@ -47,8 +47,9 @@ pub record IsAmountText (text : List ℕ) : Type 0 where
   pub ends : ends_in_digit text ≡ true
   pub unquoted : (k : ℕ) → k < length text → slice_index text k ≢ quote
 
--- A text stands for so many units of the last place, with a minus where `is_negative`, in each type that has them, and under
--- each description with this point, so many places, all of them or fewer, and such an integer part.
+-- A text stands for `units` units of the last place, with a minus where `is_negative`, in each type
+-- that has them. So it does under each description with this point and `places` places, all of them
+-- or fewer as `takes_fewer` says, and with a bare integer part.
 pub record IsAmount (point places : ℕ) (takes_fewer is_negative : Bool) (units : ℕ)
     (text : List ℕ) : Type 0 where
   pub stands : (fixed : Fixed) (type : IntegerType) → fixed_fault fixed ≡ None
@@ -58,8 +59,8 @@ pub record IsAmount (point places : ℕ) (takes_fewer is_negative : Bool) (units
       → complete_fixed fixed type text ≡ Ok (with_sign is_negative units)
   pub bytes : point ≢ quote → IsAmountText text
 
--- So many bytes stand behind the point of a text, as many as there are places, or fewer where that is taken. Where there
--- are none, no point is known.
+-- `count` bytes stand behind the point of a text: as many as there are places, or fewer where
+-- `takes_fewer`. Where `count` is 0, no point is known.
 pub record IsBehindPoint (point places : ℕ) (takes_fewer : Bool) (text : List ℕ)
     (count : ℕ) : Type 0 where
   pub most : count ≤ places
@@ -67,7 +68,7 @@ pub record IsBehindPoint (point places : ℕ) (takes_fewer : Bool) (text : List 
   pub room : 1 ≤ count → count + 2 ≤ length text
   pub stands : 1 ≤ count → slice_index text (length text - 1 - count) ≡ point
 
--- the bytes of a text but for the point, which has so many behind it
+-- the bytes of a text without the point, which has `count` bytes behind it, or all where that is 0
 abbrev pub without_point : ℕ → List ℕ → List ℕ
 without_point count text =
     if count == 0 then text else without (length text - 1 - count) text

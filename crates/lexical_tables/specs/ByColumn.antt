@@ -36,7 +36,8 @@ cell_answers dialect [] (cell ∷ cells) = answer_as dialect None cell ∷ cell_
 cell_answers dialect (kind ∷ kinds) (cell ∷ cells) =
     answer_as dialect kind cell ∷ cell_answers dialect kinds cells
 
--- the cells by widths of a text that stands at a place: those that are wholly there, and one more where bytes are left
+-- The cells by widths of a text that stands at a place: those that are wholly there, and one more
+-- where bytes are left behind the last width.
 abbrev pub cells_by_width : List ℕ → ℕ → List ℕ → List FieldView
 cells_by_width [] place text =
     if length text == 0 then [] else record { start = place; text = text } ∷ []
@@ -45,8 +46,8 @@ cells_by_width (width ∷ more) place text =
     else record { start = place; text = take width text }
     ∷ cells_by_width more (place + width) (drop width text)
 
--- The cells of what is left of a row behind so many others, at its place in the text: one more than it has separators
--- outside quotes, or those by widths.
+-- The cells of what is left of a row behind its first `column` cells, at its place in the text: one
+-- more than it has separators outside quotes, or those by widths.
 abbrev pub cells_left : Layout → Bool → ℕ → ℕ → List ℕ → List FieldView
 cells_left (Separated separator columns) has_quotes column place text =
     pieces_outside has_quotes separator place text
@@ -65,7 +66,7 @@ column_count (Separated separator columns) = columns
 column_count (Widths widths) = length widths.now
 column_count (Records widths) = length widths.now
 
--- what the cells of a row stand for that have a column
+-- what the cells of a row stand for, as far as they have a column
 abbrev pub row_answers : List (Option Kind) → Dialect → RowView
     → List (Result (Option Value) CellFault)
 row_answers kinds dialect row =
@@ -84,8 +85,8 @@ abbrev pub first_start : List FieldView → Option ℕ
 first_start [] = None
 first_start (cell ∷ more) = Some cell.start
 
--- What is wrong with the end of a row, if so many of its cells have a column, and one more starts at a place: too few
--- cells, a cell too many, or a return that lacks.
+-- What is wrong with the end of a row, if `count` of its cells have a column, and one more may
+-- start at a place: too few cells, a cell too many, or a missing return.
 abbrev pub end_fault : ℕ → ℕ → RowView → ℕ → Option ℕ → Option TableError
 end_fault columns index row count (Some place) =
     if nat_lt count columns
@@ -126,7 +127,8 @@ abbrev pub put_rows : ℕ → List (List (Option Value)) → List (Option Target
 put_rows row [] targets = targets
 put_rows row (values ∷ more) targets = put_rows (row + 1) more (put_row row values targets)
 
--- a target is usable if its format is valid, and its slice has room for so many values, and its bytes for so many bits
+-- A target is usable if its format is valid, its slice has room for `room` values, and its bytes,
+-- if it has any, for `room` bits.
 abbrev pub IsUsable : ℕ → Option TargetView → Type 0
 IsUsable room None = Unit {0}
 IsUsable room (Some target) = IsValid target.reading × (room ≤ length target.values)
@@ -146,12 +148,13 @@ answer_at dialect [] column cell = answer_as dialect None cell
 answer_at dialect (kind ∷ kinds) zero cell = answer_as dialect kind cell
 answer_at dialect (kind ∷ kinds) (suc column) cell = answer_at dialect kinds column cell
 
--- whether a text has no cell of the first of some widths: that isn't wholly there, or where none is left, no byte is
+-- Whether a text has no cell of the first of some widths: it has fewer bytes than that, or where no
+-- width is left, none.
 abbrev pub lacks_width : List ℕ → List ℕ → Bool
 lacks_width [] text = length text == 0
 lacks_width (width ∷ more) text = nat_lt (length text) width
 
--- whether what is left of a row behind so many cells has none
+-- whether what is left of a row behind its first `column` cells has no cell
 abbrev pub lacks_cell : Layout → ℕ → List ℕ → Bool
 lacks_cell (Separated separator columns) column text = false
 lacks_cell (Widths widths) column text = lacks_width (drop column widths.now) text
@@ -197,7 +200,7 @@ first_fault kinds dialect index [] = None
 first_fault kinds dialect index (row ∷ more) = first_of (row_fault kinds dialect index row)
     (first_fault kinds dialect (index + 1) more)
 
--- what `read_columns` answers of a text, with room for so many rows
+-- what `read_columns` answers of a text, if it is asked for `room` rows
 unfoldable pub columns_answer : List (Option Kind) → Dialect → ℕ → List ℕ → Result Table TableError
 columns_answer kinds dialect room text =
     let all = rows dialect text in

@@ -43,8 +43,9 @@ begins_with_quote text = nat_lt 0 (length text) && (slice_index text 0 == quote)
 abbrev pub first_quote : List ℕ → Option ℕ
 first_quote text = position (λ byte. byte == quote) text
 
--- The quote out of place in a text of so many bytes that begins with one, if a number is read within: the next quote has
--- to be the last byte, and where there is none, the first is out of place. The next is told by its place behind the first.
+-- The quote out of place in a text of `size` bytes that begins with one, if a number is read
+-- within: the next quote has to be the last byte, and where there is none, the first is out of
+-- place. The next is given by its place behind the first.
 abbrev pub fault_round_number : ℕ → Option ℕ → Option ℕ
 fault_round_number size None = Some 0
 fault_round_number size (Some place) = if place + 2 == size then None else Some (place + 1)
@@ -60,7 +61,8 @@ fault_round_text text = first_of
     (position (λ place. not (is_in_place text (place + 1))) (range_with_len 0 (length text - 1)))
     (if has_odd_quotes text then Some 0 else None)
 
--- the place of a text's first quote out of place, if there is one: a text that doesn't begin with a quote has none
+-- The place of a text's first quote out of place, if there is one: in a text that doesn't begin
+-- with a quote, each quote is out of place.
 abbrev pub misplaced_quote : Bool → List ℕ → Option ℕ
 misplaced_quote is_number text =
     if begins_with_quote text

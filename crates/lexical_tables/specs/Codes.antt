@@ -1,9 +1,11 @@
 -- What a column says of all its cells, as a byte.
--- 0: nothing is known, and the column is asked at each cell. 1: its cells aren't read. 2: they are texts. 3: they are
--- numbers, which the column is asked for at each cell. 4: they are amounts, which it reads as such. 5: they are numbers,
--- which it parses. 6: they are numbers which it parses, and each cell is one, without quotes, blanks or a mark. 8 and more: they are read as decimal digits behind an optional minus are, whatever else the format allows, as numbers of u8, u16, u32, u64,
--- i8, i16, i32 or i64 in this order. 16 is added where a number may be missing, and 32 where no zero may stand in front of
--- another digit.
+-- 0: nothing is known, and the column is asked at each cell. 1: its cells aren't read. 2: they are
+-- texts. 3: they are numbers, which the column is asked for at each cell. 4: they are amounts,
+-- which it reads as such. 5: they are numbers, which it parses. 6: they are numbers, which it
+-- parses, and each cell is a number alone, without quotes, blanks or a mark. 8 and more: decimal
+-- digits behind an optional minus are read as numbers of u8, u16, u32, u64, i8, i16, i32 or i64, in
+-- this order, whatever else the format allows. 16 is added where a number may be missing, and 32
+-- where no zero may stand in front of another digit.
 use Rattle.std.specs.Prelude.{◌≡◌, ◌-◌, ◌*◌, ◌%◌, ◌^◌, ◌<◌, ◌≤◌, ◌⊎◌, ℕ, Bool, false, true, IsTrue, List, get_or, length, nat_le, slice_index, Option, Some, None, is_some, option_map}
 use Rattle.lexical_util.specs.Format.{Format}
 use Rattle.lexical_util.specs.Number.{IntegerType, IsNumber, integer_type}
@@ -81,7 +83,8 @@ abbrev pub AreCodes : Dialect → List ℕ → List (Option TargetView) → Type
 AreCodes dialect codes targets = (k : ℕ) → k < length codes → k < length targets
     → IsCodeIn dialect (slice_index codes k) (get_or targets k None)
 
--- So many quotes stand round what a cell holds: one on each side, where quotes have a meaning, or none.
+-- `count` quotes stand on each side of what a cell holds: none, or one, where quotes have a meaning
+-- and the cell begins and ends with one.
 abbrev pub AreQuotesRound : Bool → List ℕ → ℕ → Type 0
 AreQuotesRound has_quotes text count = (count ≡ 0) ⊎ ((count ≡ 1) × (has_quotes ≡ true)
     × (2 ≤ length text) × (slice_index text 0 ≡ quote)

@@ -8,7 +8,8 @@ abbrev pub bits_below : ℕ → ℕ → ℕ
 bits_below marks zero = 0
 bits_below marks (suc place) = bits_below marks place + bit_at marks place
 
--- So many bytes of a text have no separator outside quotes among them, and whether the next one stands within quotes.
+-- No separator outside quotes is among the first `place` bytes of a text, and `is_within` says
+-- whether the next byte stands within quotes.
 pub record IsPassed (separator : ℕ) (text : List ℕ) (place : ℕ) (is_within : Bool) : Type 0 where
   pub low : place ≤ length text
   pub within : is_within ≡ has_odd_quotes (take place text)

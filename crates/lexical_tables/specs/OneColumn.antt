@@ -7,14 +7,15 @@ use Rattle.lexical_tables.specs.declared.answers.Table.{Table}
 use Rattle.lexical_tables.specs.declared.answers.TableError.{TableError}
 use Rattle.lexical_tables.specs.declared.dialect.Dialect.{Dialect}
 
--- the targets up to a column, without those of the others
+-- the targets up to a column: its own, and none for the columns before it
 abbrev pub only : {A : Type 0} → ℕ → List (Option A) → List (Option A)
 only zero [] = []
 only zero (target ∷ more) = target ∷ []
 only (suc column) [] = []
 only (suc column) (target ∷ more) = None ∷ only column more
 
--- How many cells of a column are read of so many rows: all, or where one cell of the table is wrong, those before it.
+-- For how many rows a column is read, if the table is read for `room` rows: for as many, or where a
+-- cell of the table is wrong, for those whose cell of the column comes before it.
 abbrev pub cells_read : ℕ → ℕ → Result Table TableError → ℕ
 cells_read column room (Ok table) = room
 cells_read column room (Err error) =

@@ -30,7 +30,7 @@ whole_rows dialect text = whole_pieces dialect.layout dialect.has_quotes text
 abbrev pub readable : Bool → Dialect → List ℕ → List ℕ
 readable is_last dialect text = if is_last then text else take (whole_rows dialect text) text
 
--- what is wrong with a cell that stands so many bytes further behind
+-- what is wrong with a cell, if it stands `bytes` bytes further on
 abbrev pub fault_behind : ℕ → CellFault → CellFault
 fault_behind bytes (NotNumber error) = NotNumber (error_in_text bytes error)
 fault_behind bytes (MisplacedQuote place) = MisplacedQuote (bytes + place)
@@ -38,17 +38,17 @@ fault_behind bytes (TooFewCells place) = TooFewCells (bytes + place)
 fault_behind bytes (TooManyCells place) = TooManyCells (bytes + place)
 fault_behind bytes (MissingReturn place) = MissingReturn (bytes + place)
 
--- a wrong cell that stands so many rows and bytes further behind
+-- a wrong cell, if it stands `rows` rows and `bytes` bytes further on
 abbrev pub error_behind : ℕ → ℕ → TableError → TableError
 error_behind rows bytes error =
     wrong_cell (rows + error.row) error.column (fault_behind bytes error.fault)
 
--- what a cell stands for that stands so many bytes further behind
+-- what a cell stands for, if it stands `bytes` bytes further on
 abbrev pub value_behind : ℕ → Value → Value
 value_behind bytes (Number number) = Number number
 value_behind bytes (Text text) = Text (record text { start = bytes + text.start })
 
--- what is read of rows that stand so many bytes further behind
+-- what is read of rows, if they stand `bytes` bytes further on
 abbrev pub values_behind : ℕ → List (List (Option Value)) → List (List (Option Value))
 values_behind bytes rows = map (map (option_map (value_behind bytes))) rows
 

@@ -13,7 +13,7 @@ abbrev pub cells_in_front : Dialect → List ℕ → List FieldView
 cells_in_front dialect text =
     if length text == 0 then [] else cells_of dialect (first_row dialect 0 text)
 
--- how many cells a row of so many bytes has at most
+-- how many cells a row of `size` bytes has at most
 abbrev pub most_cells : Layout → ℕ → ℕ
 most_cells (Separated separator columns) size = size + 1
 most_cells (Widths widths) size = length widths.now + 1

@@ -18,18 +18,19 @@ use Rattle.lexical_tables.specs.declared.next_part.Part.{Part}
 abbrev pub count_in : Dialect → ℕ
 count_in dialect = column_count dialect.layout
 
--- what those of the cells that are left stand for that have a column
+-- what the cells that are left stand for, as far as they have a column
 abbrev pub answers_left : List (Option Kind) → Dialect → ℕ → List FieldView
     → List (Result (Option Value) CellFault)
 answers_left kinds dialect column left =
     cell_answers dialect (drop column kinds) (take (count_in dialect - column) left)
 
--- the cells of a row behind so many others that have so many bytes
+-- the cells of a row behind its first `column` cells, from byte `passed` of the row on
 abbrev pub cells_behind : Dialect → RowView → ℕ → ℕ → List FieldView
 cells_behind dialect row column passed =
     cells_left dialect.layout dialect.has_quotes column (row.start + passed) (drop passed row.text)
 
--- So many cells of a row were read, and what is read of those that are left, with them, is what is read of the row.
+-- The first `column` cells of a row were read. With what is read of those that are left, that is
+-- what is read of the row.
 pub record IsRowPut (kinds : List (Option Kind)) (dialect : Dialect) (index : ℕ) (row : RowView)
     (old now : List (Option TargetView)) (column : ℕ) (left : List FieldView) : Type 0 where
   pub few : column ≤ count_in dialect
@@ -56,8 +57,8 @@ abbrev pub wrong_in : {A : Type 0} → Result A TableError → Option TableError
 wrong_in (Ok found) = None
 wrong_in (Err error) = Some error
 
--- One pass of marks finds the cells and the rows of a table: a separator parts the cells, which is no quote that has a
--- meaning, and no return where one may end a row.
+-- One pass of marks finds the cells and the rows of a table: its cells stand between separators,
+-- and the separator is no quote where quotes have a meaning, and no return where one may end a row.
 pub record IsMarked (dialect : Dialect) (separator : ℕ) : Type 0 where
   pub parts : separator_of dialect.layout ≡ Some separator
   pub no_quote : dialect.has_quotes ≡ true → separator ≢ quote
@@ -72,8 +73,8 @@ pub record IsOnRow (dialect : Dialect) (separator : ℕ) (text left : List ℕ) 
   pub behind_separator : 0 < length text - length left
       → slice_index text (length text - length left - 1) ≡ separator
 
--- Wherever a text stands, some cells of its first row go into targets: those between what was left of it, with so many columns
--- read, and what is left of it now, with so many.
+-- Wherever a text stands, cells of its first row go into targets. `first` columns were read before,
+-- and `from` was left of the text. Now `column` columns are read, and `left` is left.
 abbrev pub GoesOn : Dialect → ℕ → List ℕ → List ℕ → List ℕ → List (Option TargetView)
     → List (Option TargetView) → ℕ → ℕ → Type 0
 GoesOn dialect index text from left before after first column =
@@ -84,7 +85,7 @@ GoesOn dialect index text from left before after first column =
     → IsRowPut kinds dialect index row old after column
     (cells_behind dialect row column (length text - length left))
 
--- the same up to the row's end, of which nothing is wrong
+-- the same up to the row's end, where nothing is wrong with the row
 abbrev pub GoesToEnd : Dialect → ℕ → List ℕ → List ℕ → List (Option TargetView)
     → List (Option TargetView) → ℕ → Type 0
 GoesToEnd dialect index text from before after first =
@@ -94,7 +95,8 @@ GoesToEnd dialect index text from before after first =
     (cells_behind dialect row first (length text - length from))
     → IsRowDone kinds dialect index row old after None
 
--- A part is the next cell of a text's first row, of which this is left: its size, what ends it, and whether it is the last.
+-- A part is the next cell of a text's first row, where `left` is the text from the cell on: its
+-- size, where it ends, and whether it is the row's last.
 pub record IsPart (dialect : Dialect) (separator : ℕ) (text left : List ℕ)
     (part : Part) : Type 0 where
   pub room : part.size + 17 ≤ length left

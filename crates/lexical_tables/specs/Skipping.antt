@@ -22,7 +22,8 @@ is_right kinds dialect row = is_none (row_fault kinds dialect 0 row)
 abbrev pub right_rows : List (Option Kind) → Dialect → List RowView → List RowView
 right_rows kinds dialect rows = filter (is_right kinds dialect) rows
 
--- the rows that are read for so many right ones: those up to the last of these, or all where there are fewer
+-- the rows that are read for `room` right ones: up to the last of these, or all where there are
+-- fewer
 abbrev pub rows_for : List (Option Kind) → Dialect → ℕ → List RowView → List RowView
 rows_for kinds dialect room [] = []
 rows_for kinds dialect zero (row ∷ more) = []
@@ -46,8 +47,8 @@ bad_row dialect text error = record { error = error; place = place_of dialect te
 
 -- ---- what is put
 
--- Targets with what is read of rows, each at the place behind the right ones before it, where so many went before all: what
--- is read of a bad row is written over by the next one.
+-- Targets with what is read of rows. Each is put at the place behind the right ones before it, and
+-- the first at place `count`. What is read of a bad row is overwritten by the next row.
 abbrev pub put_over : List (Option Kind) → Dialect → ℕ → List RowView → List (Option TargetView)
     → List (Option TargetView)
 put_over kinds dialect count [] targets = targets
@@ -65,11 +66,11 @@ put_in_front values old = take (length old) values ++ drop (length values) old
 
 -- ---- tables
 
--- the rows of a text that are read for so many right ones
+-- the rows of a text that are read for `room` right ones
 abbrev pub rows_read : List (Option Kind) → Dialect → ℕ → List ℕ → List RowView
 rows_read kinds dialect room text = rows_for kinds dialect room (rows dialect text)
 
--- what `read_columns_skipping` answers of a text, with room for so many rows
+-- what `read_columns_skipping` answers of a text, if it is asked for `room` right rows
 unfoldable pub skipping_answer : List (Option Kind) → Dialect → ℕ → List ℕ → Skipped
 skipping_answer kinds dialect room text =
     let read = rows_read kinds dialect room text in record {
@@ -118,13 +119,13 @@ pub record SkippingInParts (kinds : List (Option Kind)) (dialect : Dialect)
 
 -- ---- the right rows alone
 
--- the bytes of bits are bytes
+-- the elements that hold the bits are bytes
 abbrev pub AreBytes : List (Option TargetView) → Type 0
 AreBytes [] = Unit {0}
 AreBytes (target ∷ targets) = IfSome target (λ column. IfSome column.present
     (λ bytes. (place : ℕ) → slice_index bytes place < 2 ^ 8)) × AreBytes targets
 
--- what is read of the right rows of a text, of so many at most
+-- what is read of the right rows of a text, of at most `room` of them
 abbrev pub values_of_right : List (Option Kind) → Dialect → ℕ → List ℕ → List (List (Option Value))
 values_of_right kinds dialect room text =
     right_values kinds dialect (rows_read kinds dialect room text)

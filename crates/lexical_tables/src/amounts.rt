@@ -10,7 +10,7 @@ use lexical_fixed::FixedFormat;
 use lexical_parse_integer::laws::grammar::front_digits;
 use std::simd::prelude::*;
 
-// Row n has the places of sixteen bytes but for n. The last lane, of 128, is made 0.
+// Row n has the places of sixteen bytes without place n. The 128 makes the last lane 0.
 static PLACES: [[u8; 16]; 13] = [
     [1, 2, 3, 4, 5, 6, 7, 8, 9, 10, 11, 12, 13, 14, 15, 128],
     [0, 2, 3, 4, 5, 6, 7, 8, 9, 10, 11, 12, 13, 14, 15, 128],
@@ -64,7 +64,8 @@ fn number_around(text: &[u8], count: usize, place: usize) -> Option<u64>
     number_to_12(&bytes_without(text, place), count - 1)
 }
 
-// The number of a text's first bytes, so many, but for the point, which has so many behind it.
+// The number of a text's first `count` bytes without the point, which has `behind` bytes behind it,
+// if the others are digits. Where `behind` is 0, there is no point.
 #[inline(always)]
 fn number_written(text: &[u8], count: usize, behind: usize) -> Option<u64>
     requires few { count ≤ 13 }
@@ -83,7 +84,8 @@ fn number_written(text: &[u8], count: usize, behind: usize) -> Option<u64>
     number_to_12(text, count)
 }
 
-// Whether the point stands in a text's first bytes, so many, with so many behind it and a byte before it.
+// Whether a text's first `count` bytes have the point in front of the last `behind` of them, and a
+// byte before it.
 #[inline(always)]
 fn stands_before(text: &[u8], count: usize, point: u8, behind: usize) -> bool
     requires within { count ≤ length text.now }
@@ -94,8 +96,9 @@ fn stands_before(text: &[u8], count: usize, point: u8, behind: usize) -> bool
     count >= behind + 2 && text[count - 1 - behind] == point
 }
 
-// How many of a text's first `count` bytes stand behind the point: as many as there are places, or fewer where that is
-// taken, and none where no point is found.
+// How many of a text's first `count` bytes stand behind the point: `places`, or if `takes_fewer`,
+// fewer, or 0 where no point is found. Without `takes_fewer`, `None` where it isn't in front of the
+// last `places`.
 #[inline(always)]
 fn count_behind(
     text: &[u8],
@@ -123,9 +126,11 @@ fn count_behind(
     Some(0)
 }
 
-/// The units of the last place that a text's first `size` bytes stand for, and whether a minus stands in front, where they
-/// are up to twelve decimal digits alone or behind a minus, and among them the point with all of one to six places behind it;
-/// or fewer, or none and no point, where that is taken. `None` says nothing of them. Seventeen bytes have to follow them.
+/// The units of the last place that a text's first `size` bytes stand for, and whether a minus
+/// stands in front. The bytes have to be up to twelve decimal digits, alone or behind a minus, and
+/// among them the point with `places` digits behind it, one to six. If `takes_fewer`, one digit
+/// behind the point is enough, or no point at all. Seventeen bytes have to follow them. `None` says
+/// nothing of them.
 ///
 /// It is for a [`TableColumn`](crate::TableColumn) of one's own, in its `read_amount`.
 #[inline(always)]

@@ -31,9 +31,9 @@ pub enum CellFault {
 /// cell, then their number, then the return.
 #[derive(Debug, Copy, Clone, PartialEq, Eq)]
 pub struct TableError {
-    /// Its row, counted from 0: so many rows were read.
+    /// Its row, counted from 0: how many rows come before it.
     pub row: usize,
-    /// Its column, counted from 0: so many cells of the row were read.
+    /// Its column, counted from 0: how many cells of the row come before it.
     pub column: usize,
     /// What is wrong.
     pub fault: CellFault,

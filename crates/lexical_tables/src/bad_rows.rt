@@ -47,7 +47,7 @@ impl KeptRow for BadRow {
     }
 }
 
-// Puts what is kept of a bad row behind so many others, if there is room.
+// Stores what is kept of a bad row at `place`, the number of bad rows before it, if there is room.
 #[inline(always)]
 pub(crate) fn put_bad_row<B: KeptRow>(bad: &mut [B], place: usize, row: BadRow)
     ensures { bad.new ≡ set bad.old place (B.kept row) }

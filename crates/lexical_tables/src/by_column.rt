@@ -20,7 +20,7 @@ use crate::rows::{Row, first_row};
 use crate::targets::TableColumn;
 use lexical_parse_integer::{Error, Options};
 
-// The number of what a cell holds goes to the row's place, or its fault is returned.
+// Puts the number of what a cell holds into the row's place, or returns its fault.
 #[inline(always)]
 pub(crate) fn read_held<C: TableColumn>(
     target: &mut C,
@@ -259,8 +259,9 @@ pub(crate) fn read_by_column<C: TableColumn>(
     }
 }
 
-// The numbers of a row's cells behind so many bytes and columns go to its place in the targets, up to the row's fault. What is
-// ahead begins with the row.
+// Puts what is read of a row's cells into its place in the targets, up to the row's fault, which it
+// returns. The first `first` columns and `passed` bytes of the row were read before. `ahead` begins
+// with the row.
 #[inline(always)]
 fn read_cells<C: TableColumn>(
     row: &Row<'_>,
@@ -319,8 +320,9 @@ fn read_cells<C: TableColumn>(
     end_fault(row, index, columns, column, extra)
 }
 
-// The numbers of the first row of a text go to its place in the targets, behind so many bytes and columns of the row that were
-// read, up to the row's fault, which is returned: what is behind it. Out of line, to keep registers for the loop.
+// Puts what is read of the first row of a text into its place in the targets, up to the row's
+// fault, which goes to `wrong`, and returns what is behind the row. The first `first` columns and
+// `passed` bytes of the row were read before. Out of line, to keep registers for the loop.
 #[inline(never)]
 pub(crate) fn read_rest<'a, C: TableColumn>(
     start: usize,
@@ -353,15 +355,15 @@ pub(crate) fn read_rest<'a, C: TableColumn>(
     behind
 }
 
-/// Reads a table's columns into slices of their own, for as many rows as are asked for at most.
+/// Reads a table's columns into slices of their own, for at most `rows` rows.
 ///
 /// Each cell of a row has a target, or none: then it isn't read, and may hold any bytes. So it is with cells
 /// behind the last target. The number of a cell is put at its row's place in the target's slice, and all else
 /// in the slices is as it was, also after a fault: then the numbers are those of all cells before the wrong
 /// one. Where the text has more rows than are asked for, `stop` is where the next one starts.
 ///
-/// The formats of the targets have to be valid, and their slices and their bits have to have room for so
-/// many rows.
+/// The format of each target has to be valid, and its slice and its bits have to have room for
+/// `rows` rows.
 ///
 /// With a comma, three columns and targets of `u64` for the first and of `i8` for the third, `1,a,-2\n`
 /// puts 1 and -2 at place 0, and stops at 7.

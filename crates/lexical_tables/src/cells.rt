@@ -20,8 +20,8 @@ pub(crate) fn column_count(dialect: &Dialect<'_>) -> usize
     }
 }
 
-// Whether what is left of a row has no cell of the next width: the cell isn't wholly there, or none is to come, and no
-// byte is left.
+// Whether what is left of a row has no cell of the next width: it has fewer bytes than that, or
+// where no width is left, none.
 #[inline(always)]
 fn lacks_width(text: &[u8], column: usize, widths: &[usize]) -> bool
     ensures lacks { result ≡ lacks_width (drop column widths.now) text.now }
@@ -34,7 +34,7 @@ fn lacks_width(text: &[u8], column: usize, widths: &[usize]) -> bool
     }
 }
 
-// Whether what is left of a row behind so many cells has none.
+// Whether what is left of a row behind its first `column` cells has no cell.
 #[inline(always)]
 pub(crate) fn lacks_cell(text: &[u8], column: usize, dialect: &Dialect<'_>) -> bool
     ensures lacks { result ≡ lacks_cell dialect.now.layout column text.now }
@@ -55,7 +55,8 @@ pub(crate) struct NextCell<'a> {
     pub has_no_quote: bool,
 }
 
-// The first cell of what is left of a row behind so many cells that have widths, if it has one.
+// The first cell of what is left of a row behind its first `column` cells, by its width. It has to
+// be wholly there.
 #[inline(always)]
 pub(crate) fn wide_cell<'a>(rest: &'a [u8], column: usize, widths: &[usize]) -> NextCell<'a>
     requires column { column < length widths.now }
@@ -82,7 +83,8 @@ pub(crate) fn wide_cell<'a>(rest: &'a [u8], column: usize, widths: &[usize]) -> 
     }
 }
 
-// The first cell of what is left of a row, if it has so many bytes, and whether it was seen that none of them is a quote.
+// The first cell of what is left of a row, by its `size`. `has_no_quote` says whether it was seen
+// that none of its bytes is a quote.
 #[inline(always)]
 pub(crate) fn sized_cell(rest: &[u8], size: usize, has_no_quote: bool) -> NextCell<'_>
     requires within { size ≤ length rest.now }
@@ -110,7 +112,8 @@ pub(crate) fn sized_cell(rest: &[u8], size: usize, has_no_quote: bool) -> NextCe
     }
 }
 
-// The first cell of what is left of a row, whose separators are searched for. What is ahead begins with that.
+// The first cell of what is left of a row, found by searching for its separator. `ahead` begins
+// with what is left.
 #[inline(always)]
 pub(crate) fn parted_cell<'a>(
     rest: &'a [u8],
@@ -144,7 +147,8 @@ pub(crate) fn parted_cell<'a>(
     }
 }
 
-// The first cell of what is left of a row behind so many cells, if it has one. What is ahead begins with that.
+// The first cell of what is left of a row behind its first `column` cells. There has to be one.
+// `ahead` begins with what is left.
 #[inline(always)]
 pub(crate) fn next_cell<'a>(
     rest: &'a [u8],

@@ -1,13 +1,13 @@
 //! What a cell holds.
 
-ghost use Rattle.std.specs.Prelude.{◌≡◌, ◌+◌, ◌<◌, ◌≤◌, ◌^◌, None, false, length, take};
+ghost use Rattle.std.specs.Prelude.{◌≡◌, ◌&&◌, ◌+◌, ◌<◌, ◌≤◌, ◌^◌, length, take, is_some};
 ghost use Rattle.std.specs.List.{prefix_len, suffix_len};
 ghost use Rattle.lexical_tables.specs.Readings.{text_of};
 ghost use Rattle.lexical_tables.specs.Targets.{view_of_text};
-ghost use Rattle.lexical_tables.specs.Cells.{content, is_blank, quote_fault, view_of_cell, without_blanks, without_quotes};
+ghost use Rattle.lexical_tables.specs.Cells.{content, first_quote, is_blank, view_of_cell, without_blanks, without_quotes};
 
 use crate::cell_text::CellText;
-use crate::misplaced::{begins_with_quote, first_quote};
+use crate::misplaced::begins_with_quote;
 
 // A cell, or what it holds: the place in the text at which that starts, its bytes, and what begins with them.
 #[derive(Copy, Clone)]
@@ -93,19 +93,16 @@ fn without_quotes(cell: Cell<'_>, has_quotes: bool) -> Cell<'_>
     cell
 }
 
-// What a cell whose quotes are in place holds, as a text, by where it stands. Only one that begins with a quote may have others.
+// What a cell holds, as a text, by where it stands.
 #[inline(always)]
-#[tactic(auto, using(crate::proofs::Unquoted::doubled_is))]
-pub(crate) fn text_of(cell: Cell<'_>, held: Cell<'_>, has_quotes: bool) -> CellText
-    requires fine { quote_fault has_quotes false (view_of_cell cell) ≡ None }
-    requires held { view_of_cell held ≡ content has_quotes false (view_of_cell cell) }
+pub(crate) fn text_of(held: Cell<'_>, has_doubled_quotes: bool, has_quotes: bool) -> CellText
+    requires doubled { has_doubled_quotes ≡ (has_quotes && is_some (first_quote held.text.now)) }
     ensures { view_of_text result ≡ text_of has_quotes (view_of_cell held.entry) }
 {
-    let is_quoted = has_quotes && begins_with_quote(cell.text);
     CellText {
         start: held.start,
         size: held.text.len(),
-        has_doubled_quotes: is_quoted && first_quote(held.text).is_some(),
+        has_doubled_quotes,
     }
 }
 

@@ -16,8 +16,9 @@ use crate::targets::TableColumn;
 use lexical_fields::{long_number_of_front, number_of_front};
 use lexical_parse_integer::Options;
 
-// What stands in a cell of `size` bytes behind its quotes, where these have a meaning and the cell begins and ends with one,
-// and how many bytes of that the cell holds: else all of the cell.
+// The text behind the first quote of a cell, and how many of its bytes the cell has between its
+// quotes. Where no two quotes stand around what the cell holds, or quotes have no meaning, these
+// are all of `ahead`, and `size`.
 #[inline(always)]
 fn within_quotes(ahead: &[u8], size: usize, has_quotes: bool) -> (&[u8], usize)
     requires room { size + 17 ≤ length ahead.now }
@@ -39,8 +40,9 @@ fn within_quotes(ahead: &[u8], size: usize, has_quotes: bool) -> (&[u8], usize)
     (&ahead[1..], size - 2)
 }
 
-// Whether it is seen at once that no quote is out of place in a cell that isn't read, the first `size` bytes of a text: quotes
-// have no meaning, or one look shows that none stands within those that are round it.
+// Whether one look shows that no quote is out of place in a cell that isn't read, the first `size`
+// bytes of a text: quotes have no meaning, or none stands within the two around the cell, if it has
+// these.
 #[inline(always)]
 fn shows_no_fault(ahead: &[u8], size: usize, has_quotes: bool) -> bool
     requires room { size + 17 ≤ length ahead.now }
@@ -54,7 +56,8 @@ fn shows_no_fault(ahead: &[u8], size: usize, has_quotes: bool) -> bool
     shows_no_quote(held, count)
 }
 
-// Whether digits, so many bytes of a text with the minus in front, keep the rule on zeros, if a column's code has it.
+// Whether a text's first `size` bytes, digits behind an optional minus, keep the rule on zeros, if
+// the column's code has that rule.
 #[inline(always)]
 fn keeps_zero_rule(code: u8, ahead: &[u8], size: usize, is_negative: bool) -> bool
     requires room { size + 17 ≤ length ahead.now }
@@ -125,9 +128,9 @@ fn read_amount<C: TableColumn, const HAS_QUOTES: bool>(
     target.read_amount(row, held, count)
 }
 
-// Reads a cell at once, the first `size` bytes of a text, where its column isn't read, or it is digits alone, behind a minus
-// or within quotes, or by a call an amount or a number of another format, where a table has such columns, and returns whether it
-// did.
+// Reads a cell at once, the first `size` bytes of a text, where the column isn't read, or the cell
+// is digits alone, behind a minus or within quotes, and returns whether it did. With `HAS_CALLS` it
+// also reads amounts and numbers of other formats, each by a call.
 #[inline(always)]
 pub(crate) fn read_coded<C: TableColumn, const HAS_QUOTES: bool, const HAS_CALLS: bool>(
     target: &mut C,

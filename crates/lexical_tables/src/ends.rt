@@ -9,10 +9,11 @@ use crate::quotes::parities::odd_to_64;
 use lexical_fields::lowest_mark;
 use std::simd::prelude::*;
 
-// A text of so many bytes has marks: of its first 64, since sixteen more have to stand behind each.
+// The fewest bytes of a text that has marks. These are of its first 64 bytes, since sixteen more
+// have to follow each marked byte.
 pub(crate) const LEAST_MARKED: usize = 80;
 
-// A bit for each of 64 bytes, set where that is the byte.
+// A bit for each of 64 bytes, set where it is `byte`.
 #[inline(always)]
 fn marks_of_one(bytes: &[u8], byte: u8) -> u64
     requires { length bytes.now ≡ 64 }
@@ -24,7 +25,7 @@ fn marks_of_one(bytes: &[u8], byte: u8) -> u64
         .to_bitmask()
 }
 
-// A bit for each of 64 bytes, set where that is one of two.
+// A bit for each of 64 bytes, set where it is `first` or `second`.
 #[inline(always)]
 fn marks_of_two(bytes: &[u8], first: u8, second: u8) -> u64
     requires { length bytes.now ≡ 64 }
@@ -109,7 +110,8 @@ pub(crate) fn next_ends(text: &[u8], marks: u64, separator: u8, has_quotes: bool
     }
 }
 
-// How many bytes the first cell has where its end is marked. That is a separator, or the line feed that ends the row.
+// The place of the first mark, where the first cell ends: at a separator, or at the line feed that
+// ends the row.
 #[inline(always)]
 pub(crate) fn first_end(text: &[u8], marks: u64, separator: u8, has_quotes: bool) -> usize
     requires some { marks ≢ 0 }
@@ -123,7 +125,7 @@ pub(crate) fn first_end(text: &[u8], marks: u64, separator: u8, has_quotes: bool
     lowest_mark(marks)
 }
 
-// The marks of what stands behind an end at a place, so many bytes from the first.
+// The marks of what stands behind an end that has `size` bytes before it.
 #[inline(always)]
 pub(crate) fn behind_end(marks: u64, size: usize) -> u64
     requires { size < 64 }

@@ -20,8 +20,9 @@ use crate::row_end::{ReadOn, done, end_row, not_done};
 use crate::targets::TableColumn;
 use lexical_parse_integer::Options;
 
-// Reads the next cell of a row, of which this is left, behind so many columns, wherever it ends. Where no look shows its end,
-// that stands near the text's own, and what is left of the row is read. Where all columns are read, a cell is too many.
+// Reads the next cell of a row, the first of `left`, wherever it ends. `column` columns were read
+// before. Where no look shows its end, the cell ends near the text's end, and all that is left of
+// the row is read. Where all columns were read before, the cell is one too many.
 #[inline(always)]
 fn read_next_cell<'a, C: TableColumn>(
     start: usize,
@@ -119,8 +120,9 @@ fn read_next_cell<'a, C: TableColumn>(
     done(found.behind, count)
 }
 
-// What is left of a text behind its first row, whose cells behind so many columns are read, one by one where they aren't had at
-// once.
+// Reads what is left of a text's first row behind its first `first` columns, and returns what is
+// left of the text behind the row, where nothing is wrong. Cells that aren't read at once are read
+// one by one.
 #[inline(always)]
 pub(crate) fn read_row_on<'a, C: TableColumn, const HAS_QUOTES: bool, const HAS_CALLS: bool>(
     start: usize,

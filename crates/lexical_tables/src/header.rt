@@ -36,8 +36,8 @@ fn behind_line(text: &[u8], has_quotes: bool) -> &[u8]
 
 /// The place behind the first `count` lines of a text, or its end if it has fewer.
 ///
-/// A table's rows begin there, if a header of so many lines stands in front of it. Of the dialect only
-/// `has_quotes` counts: then a line feed within quotes ends no line, unless they never close. What else stands
+/// If a table has a header of `count` lines, its rows begin there. Of the dialect only `has_quotes`
+/// counts: then a line feed within quotes ends no line, unless they never close. What else stands
 /// in the header isn't judged.
 ///
 /// With quotes the place behind one line of `"width\nin mm",2\n1,2\n` is 16, and of `width 5",2\n1,2\n` it is 11.

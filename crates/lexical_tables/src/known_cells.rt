@@ -11,7 +11,7 @@ use crate::cell_text::CellText;
 use crate::codes::{AMOUNTS, AT_ONCE, TEXTS};
 use crate::content::{Cell, content, text_of};
 use crate::dialect::Dialect;
-use crate::misplaced::quote_fault;
+use crate::misplaced::{doubled_quotes, quote_fault};
 use crate::targets::TableColumn;
 use lexical_parse_integer::Options;
 
@@ -39,15 +39,16 @@ pub(crate) fn read_text<C: TableColumn>(
         (C.target target.old) }
     ensures kept { result ≡ false → C.target target.new ≡ C.target target.old }
 {
-    if quote_fault(dialect.has_quotes, false, cell).is_some() {
+    let Some(has_doubled_quotes) = doubled_quotes(dialect.has_quotes, cell) else {
         return false;
-    }
+    };
     let held = content(cell, dialect.has_quotes, false);
     let is_missing = target.may_miss() && held.text == dialect.missing;
     if is_missing {
         target.put_missing(row);
     } else {
-        target.put_text(TEXTS, row, text_of(cell, held, dialect.has_quotes));
+        let text = text_of(held, has_doubled_quotes, dialect.has_quotes);
+        target.put_text(TEXTS, row, text);
     }
     true
 }

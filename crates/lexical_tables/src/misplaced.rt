@@ -1,7 +1,7 @@
 //! Whether the quotes of a cell are in place.
 
-ghost use Rattle.std.specs.Prelude.{◌≡◌, ◌≢◌, ◌+◌, ◌<◌, ◌≤◌, ◌^◌, ℕ, length, drop, slice_index, true, IfSome};
-ghost use Rattle.lexical_tables.specs.Cells.{begins_with_quote, fault_round_number, fault_round_text, first_quote, misplaced_quote, quote_fault, view_of_cell};
+ghost use Rattle.std.specs.Prelude.{◌≡◌, ◌≢◌, ◌&&◌, ◌+◌, ◌-◌, ◌<◌, ◌≤◌, ◌^◌, ℕ, length, take, drop, slice_index, false, true, is_some, IfSome, IsNone, None};
+ghost use Rattle.lexical_tables.specs.Cells.{begins_with_quote, content, fault_round_number, fault_round_text, first_quote, misplaced_quote, quote_fault, view_of_cell};
 ghost use Rattle.lexical_tables.specs.Quotes.{quote};
 
 use crate::answers::CellFault;
@@ -55,8 +55,8 @@ fn next_quote(text: &[u8], place: usize) -> usize
     place + field_length(&text[place..], b'"')
 }
 
-// The quote out of place in a text that begins with one, if nothing is read of it: from quote to quote, since most bytes
-// are none.
+// The quote out of place in a text that begins with one, if no number is read of it: from quote to
+// quote, since most bytes are none.
 fn fault_round_text(text: &[u8]) -> Option<usize>
     requires quoted { begins_with_quote text.now ≡ true }
     ensures place { result ≡ fault_round_text text.now }
@@ -77,6 +77,44 @@ fn fault_round_text(text: &[u8]) -> Option<usize>
         place = end + 2;
     }
     Some(0)
+}
+
+// Whether doubled quotes stand within those round a text that begins with one, if all are in place: the next quote is mostly the
+// last byte, and then no other search is made.
+#[inline(always)]
+fn doubled_round_text(text: &[u8]) -> Option<bool>
+    requires quoted { begins_with_quote text.now ≡ true }
+    ensures fine { IfSome result (λ doubled. fault_round_text text.now ≡ None) }
+    ensures doubled { IfSome result (λ doubled. doubled
+        ≡ is_some (first_quote (take (length (drop 1 text.now) - 1) (drop 1 text.now)))) }
+    ensures wrong { IsNone result → is_some (fault_round_text text.now) ≡ true }
+{
+    if next_quote(text, 1) + 1 == text.len() {
+        return Some(false);
+    }
+    match fault_round_text(text) {
+        None => Some(true),
+        Some(_) => None,
+    }
+}
+
+// Whether doubled quotes stand in what a cell holds as a text, if the cell's quotes are in place, where these have a meaning.
+#[inline(always)]
+pub(crate) fn doubled_quotes(has_quotes: bool, cell: Cell<'_>) -> Option<bool>
+    ensures fine { IfSome result
+        (λ doubled. quote_fault has_quotes false (view_of_cell cell.entry) ≡ None) }
+    ensures doubled { IfSome result (λ doubled. doubled ≡ (has_quotes
+        && is_some (first_quote (content has_quotes false (view_of_cell cell.entry)).text))) }
+    ensures wrong { IsNone result
+        → is_some (quote_fault has_quotes false (view_of_cell cell.entry)) ≡ true }
+{
+    if has_quotes && begins_with_quote(cell.text) {
+        return doubled_round_text(cell.text);
+    }
+    if has_quotes && first_quote(cell.text).is_some() {
+        return None;
+    }
+    Some(false)
 }
 
 // The first quote out of place in a text.

@@ -45,7 +45,8 @@ pub(crate) fn behind_part(left: Left<'_>, end: usize) -> Left<'_>
     }
 }
 
-// How many bytes a row's last cell has that ends at a place: a return in front of it is none of them, if one may stand there.
+// How many bytes a row's last cell has if its line feed is at `end`: a return in front of that is
+// none of them, if one may stand there.
 #[inline(always)]
 fn last_size(left: &[u8], end: usize, takes_returns: bool) -> usize
     requires end { end ≤ length left.now }
@@ -68,7 +69,8 @@ fn last_size(left: &[u8], end: usize, takes_returns: bool) -> usize
     end - 1
 }
 
-// Whether a row lacks its return, of which this is left, and so many bytes are its last cell: the line feed stands behind it.
+// Whether a row lacks the return that it should have: a line feed stands directly behind its last
+// cell, the first `size` bytes of `left`.
 #[inline(always)]
 pub(crate) fn lacks_return(left: &[u8], size: usize, has_returns: bool) -> bool
     requires { size < length left.now }
@@ -77,7 +79,8 @@ pub(crate) fn lacks_return(left: &[u8], size: usize, has_returns: bool) -> bool
     has_returns && left[size] == b'\n'
 }
 
-// The next cell of the first row of a text, of which this is left, by where the cell ends.
+// The next cell of the first row of a text, by where the cell ends. `left` is the text from the
+// cell on.
 #[inline(always)]
 fn part_to(text: &[u8], left: &[u8], end: usize, separator: u8, dialect: &Dialect<'_>) -> Part
     requires end { IsFirstEnd dialect.now.has_quotes separator left.now end }
@@ -101,7 +104,7 @@ fn part_to(text: &[u8], left: &[u8], end: usize, separator: u8, dialect: &Dialec
     }
 }
 
-// The next cell of the first row of a text, of which this is left, by its marks.
+// The next cell of the first row of a text, by the marks of `left`, the text from the cell on.
 #[inline(always)]
 pub(crate) fn next_part(
     text: &[u8],
@@ -123,7 +126,8 @@ pub(crate) fn next_part(
     part_to(text, left, end, separator, dialect)
 }
 
-// The next cell of the first row of a text, of which this is left, if it ends in front of the text's last bytes.
+// The next cell of the first row of a text, if it ends in front of the text's last bytes. `left` is
+// the text from the cell on.
 #[inline(always)]
 fn far_part<'a>(
     text: &[u8],
@@ -150,7 +154,8 @@ fn far_part<'a>(
     }
 }
 
-// The next cell of the first row of a text, of which this is left: by its marks, and where there is none, by looks behind these.
+// The next cell of the first row of a text: by the marks of `left`, the text from the cell on, and
+// where there is none, by looks behind these.
 #[inline(always)]
 pub(crate) fn found_part<'a>(
     text: &[u8],

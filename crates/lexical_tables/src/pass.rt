@@ -120,9 +120,11 @@ pub(crate) struct Behind<'a> {
     pub is_right: bool,
 }
 
-// The numbers of the first row of a text go to its place in the targets, up to the row's fault, which is returned, where one pass
-// of marks finds its cells: what is left of the text behind it, where nothing is wrong. An answer that may be a fault would clear
-// its memory for each row. It says by a parameter who calls it: a function of one caller is inlined, however large it is.
+// Puts what is read of the first row of a text into its place in the targets, up to the row's
+// fault, which goes to `wrong`, where one pass of marks finds its cells. Returns what is left of
+// the text behind the row, where nothing is wrong. An answer that may be a fault would clear its
+// memory for each row. `SKIPS` says who calls it: a function of one caller is inlined, however
+// large it is.
 #[inline(always)]
 pub(crate) fn read_marked_row<
     'a,
@@ -193,8 +195,9 @@ pub(crate) fn read_marked_row<
     }
 }
 
-// The numbers of the first row of a text go to its place in the targets, up to the row's fault, which is returned: what is left
-// of the text behind it, where nothing is wrong.
+// Puts what is read of the first row of a text into its place in the targets, up to the row's
+// fault, which goes to `wrong`, and returns what is left of the text behind the row, where nothing
+// is wrong.
 #[inline(always)]
 pub(crate) fn read_row<'a, C: TableColumn, const HAS_QUOTES: bool, const HAS_CALLS: bool>(
     start: usize,
@@ -278,7 +281,8 @@ pub(crate) fn behind_empty_rows<'a>(
     Left { text, marks: 0 }
 }
 
-// Asks the columns for their codes, where marks find the cells, and returns whether one has amounts: else none is read by them.
+// Asks the columns for their codes, where marks find the cells, and returns whether the numbers of
+// one are read by a call. Elsewhere it asks for no code, and returns `false`.
 #[inline(always)]
 pub(crate) fn ask_codes<C: TableColumn>(
     marked: Option<u8>,

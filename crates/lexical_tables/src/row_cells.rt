@@ -20,7 +20,8 @@ pub struct CellPlace {
     pub size: usize,
 }
 
-// The first cell of what is left of a row behind so many cells that have widths, or all of it behind the last width.
+// The first cell of what is left of a row behind its first `column` cells: as many bytes as the
+// column's width, or all that is left behind the last width.
 #[inline(always)]
 fn wide_or_left<'a>(rest: &'a [u8], column: usize, widths: &[usize]) -> NextCell<'a>
     requires there { lacks_width (drop column widths.now) rest.now ≡ false }
@@ -38,7 +39,8 @@ fn wide_or_left<'a>(rest: &'a [u8], column: usize, widths: &[usize]) -> NextCell
     sized_cell(rest, rest.len(), false)
 }
 
-// The first cell of what is left of a row behind so many cells, also where that has no column.
+// The first cell of what is left of a row behind its first `column` cells, also where it has no
+// column.
 #[inline(always)]
 fn any_cell<'a>(rest: &'a [u8], column: usize, dialect: &Dialect<'_>) -> NextCell<'a>
     requires there { lacks_cell dialect.now.layout column rest.now ≡ false }
@@ -61,7 +63,8 @@ fn any_cell<'a>(rest: &'a [u8], column: usize, dialect: &Dialect<'_>) -> NextCel
     }
 }
 
-// Puts where the cell of a column is, if it is one that is asked for, and if there is room.
+// Stores where the cell of a column is, if the column is one of those from `first` on, and if there
+// is room.
 #[inline(always)]
 fn put_place(cells: &mut [CellPlace], first: usize, column: usize, cell: CellPlace)
     ensures { cells.new ≡ (if nat_lt column first then cells.old
@@ -72,7 +75,8 @@ fn put_place(cells: &mut [CellPlace], first: usize, column: usize, cell: CellPla
     }
 }
 
-// Puts where the cells of a row are that starts at place 0, from a column on: how many there are.
+// Stores where the cells of a row are, from the column `first` on, as far as there is room, and
+// returns how many cells the row has. The row starts at place 0.
 fn put_row_cells(
     row: &Row<'_>,
     dialect: &Dialect<'_>,
@@ -101,14 +105,15 @@ fn put_row_cells(
     column
 }
 
-/// Puts where the cells of a text's first row are at the front of an array, from a column on, as far as there is room,
-/// and answers how many cells the row has.
+/// Stores where the cells of a text's first row are at the front of the slice `cells`, from the
+/// column `first` on, as far as there is room, and returns how many cells the row has.
 ///
-/// A cell stands with its quotes and blanks, and without what ends the row. By widths these are the cells that are
-/// wholly there, and one more where bytes are left. Between separators a row without a byte has one cell, which is
-/// empty; a text without a byte has no row. Empty rows count here, also where the dialect skips them: so the text
-/// begins with the row that is asked for, as [`row_place`](crate::row_place) returns it. All else in the array is as it
-/// was.
+/// A cell stands with its quotes and blanks, and without what ends the row. By widths these are the
+/// cells that are wholly there, and one more where bytes are left behind the last width. Between
+/// separators a row without a byte has one cell, which is empty; a text without a byte has no row.
+/// Empty rows count here, also where the dialect skips them: so let the text begin at the start of
+/// the row that you want, as [`row_place`](crate::row_place) returns it. All else in the slice is
+/// as it was.
 ///
 /// The cells of a header have its names. For the cell of a fault, ask from its column on, and for one.
 ///

@@ -10,7 +10,8 @@ use crate::by_column::put_end_fault;
 use crate::dialect::Dialect;
 use crate::next_part::{Left, Part, lacks_return};
 
-// How far a row was read: what is left of its text, behind so many columns, or if it is done, of the text behind it.
+// How far a row was read: at least `column` of its columns. `left` is the text from its next cell
+// on, or, if the row is done and nothing is wrong with it, the text behind the row.
 #[derive(Copy, Clone)]
 pub(crate) struct ReadOn<'a> {
     pub left: Left<'a>,
@@ -18,7 +19,7 @@ pub(crate) struct ReadOn<'a> {
     pub is_done: bool,
 }
 
-// A row that isn't done, so many columns of which were read.
+// A row that isn't done. Its first `column` columns were read.
 #[inline(always)]
 pub(crate) fn not_done(left: Left<'_>, column: usize) -> ReadOn<'_>
     ensures { result ≡ record { left = left.entry; column = column; is_done = false } }
@@ -30,7 +31,7 @@ pub(crate) fn not_done(left: Left<'_>, column: usize) -> ReadOn<'_>
     }
 }
 
-// A row that is done, so many columns of which were read.
+// A row that is done. At least its first `column` columns were read.
 #[inline(always)]
 pub(crate) fn done(behind: Left<'_>, column: usize) -> ReadOn<'_>
     ensures { result ≡ record { left = behind.entry; column = column; is_done = true } }
@@ -42,7 +43,8 @@ pub(crate) fn done(behind: Left<'_>, column: usize) -> ReadOn<'_>
     }
 }
 
-// Whether a cell with which so many columns are read is its row's last, and the row is wrong behind it.
+// Whether a cell is its row's last, and something is wrong with the row's end. With this cell,
+// `count` of the table's `columns` columns are read.
 #[inline(always)]
 pub(crate) fn ends_wrong(
     left: &[u8],
@@ -65,7 +67,8 @@ pub(crate) fn ends_wrong(
     lacks_return(left, part.size, dialect.has_returns)
 }
 
-// Tells what is wrong with the end of a row, of which this is left, whose last cell is read, with so many columns.
+// Reports what is wrong with the end of a row, if anything is. Its last cell, the first of `left`,
+// is read, and `count` columns with it.
 #[inline(always)]
 pub(crate) fn end_row(
     start: usize,

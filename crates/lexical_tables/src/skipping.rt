@@ -22,7 +22,8 @@ use crate::places::{RowPlace, behind_row};
 use crate::targets::TableColumn;
 use lexical_parse_integer::Options;
 
-// What is known of a bad row behind `bad_count` others: its fault counts the right rows, and it stands from one place to another.
+// What is known of a bad row that stands from `start` to `stop`. `error` counts only the right rows
+// before it, so `bad_count`, the number of bad ones, is added.
 #[inline(always)]
 fn bad_row(error: TableError, bad_count: usize, start: usize, stop: usize) -> BadRow
     requires fits { error.row + bad_count < 2 ^ 64 }
@@ -41,8 +42,8 @@ fn bad_row(error: TableError, bad_count: usize, start: usize, stop: usize) -> Ba
     }
 }
 
-// The numbers of the first row of a text go to its place in the targets, up to the row's fault: what is left of the text
-// behind it, or the fault.
+// Puts what is read of the first row of a text into its place in the targets, up to the row's
+// fault. Returns what is left of the text behind the row, or the fault.
 #[inline(always)]
 fn read_row<'a, C: TableColumn, const HAS_QUOTES: bool, const HAS_CALLS: bool>(
     start: usize,
@@ -84,8 +85,9 @@ fn read_row<'a, C: TableColumn, const HAS_QUOTES: bool, const HAS_CALLS: bool>(
     }
 }
 
-// Keeps what is known of a bad row that starts at a place, behind `bad_count` others, if there is room: what the text has behind
-// it. Out of line, and cold for the compiler: bad rows are rare.
+// Stores what is known of a bad row that starts at `start`, behind `bad_count` others, if there is
+// room, and returns what the text has behind the row. Out of line, and cold for the compiler: bad
+// rows are rare.
 #[cold]
 #[inline(never)]
 fn pass_bad_row<'a, B: KeptRow>(
@@ -172,7 +174,8 @@ fn skip_coded_rows<C: TableColumn, B: KeptRow, const HAS_QUOTES: bool, const HAS
     }
 }
 
-// `skip_coded_rows` of a table with amounts, which it reads in its loop, out of line, as `read_rows` has one.
+// `skip_coded_rows` of a table with amounts, or with numbers of other formats, which calls read in
+// its loop. Out of line, as `read_called_rows` is.
 #[inline(never)]
 fn skip_amount_rows<C: TableColumn, B: KeptRow, const HAS_QUOTES: bool>(
     text: &[u8],
@@ -240,9 +243,10 @@ fn skip_rows<C: TableColumn, B: KeptRow, const HAS_QUOTES: bool>(
 /// Reads a table's columns into slices of their own, as [`read_columns`](crate::read_columns) does, and skips the rows
 /// at fault.
 ///
-/// The right rows are stored one behind another, all of them and no other, up to so many as are asked for. A row with
-/// too few or too many cells is at fault as any other. What is known of each bad row is kept in `bad`, in their order,
-/// up to its room; all else there is as it was, and `bad_rows` counts all of them.
+/// All right rows and no others are stored, one behind another, up to `rows` of them. A row with
+/// too few or too many cells is at fault as any other. What is known of each bad row is kept in
+/// `bad`, in their order, up to its room; all else there is as it was, and `bad_rows` counts all of
+/// them.
 ///
 /// The call stops behind the last right row that it is asked for, or else at the text's end: so no bad row that follows
 /// that right one is read. A call whose text begins at `stop` goes on with the next row, and counts rows and places

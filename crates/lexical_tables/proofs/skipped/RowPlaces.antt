@@ -49,9 +49,9 @@ row_behind d text piece behind some first back shorter skipped counted =
         ≡ place + (length text - length behind)
     at place = omega (arith, shorter, skipped.within)
 
--- ---- so many rows were passed
+-- ---- rows that were passed
 
--- So many rows of a text were passed, and what is left has the others.
+-- `index` rows of a text were passed, and what is left has the others.
 pub record IsPassedTo (d : Dialect) (text : List ℕ) (index : ℕ) (rest : List ℕ) : Type 0 where
   pub few : index + length rest ≤ length text
   pub tail : rest ≡ drop (length text - length rest) text

@@ -115,7 +115,8 @@ module _ {B : Type 0} (kept : BadRow → B) (d : Dialect) (room : ℕ) (text : L
   abbrev known : ℕ → List RowView → List BadRow
   known index some = map (bad_row d text) (faults_from kinds d index some)
 
-  -- So many right rows and bad ones were read, and what is read of those that are left, with them, is what is read of the text.
+  -- `count` right rows and `bad` bad ones were read. With what is read of those that are left, that
+  -- is what is read of the text.
   pub record IsSkipping (now : List (Option TargetView)) (here : List B) (count bad : ℕ) (rest : List ℕ) : Type 0 where
     pub passed : IsPassedTo d text (count + bad) rest
     pub few : count ≤ room

@@ -8,7 +8,7 @@ use Rattle.lexical_tables.proofs.CellsLeft.{left_in}
 use Rattle.lexical_tables.proofs.MarkedCells.{IsAhead}
 use Rattle.lexical_tables.proofs.by_column.read_cells.Given as goal
 
--- so many cells were read
+-- `column` cells of the row were read
 abbrev pub invariant-loop-column : goal.invariant-loop-column
 invariant-loop-column g l =
     IsAhead l.row.text.now l.ahead l.rest

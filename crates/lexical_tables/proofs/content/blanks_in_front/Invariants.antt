@@ -3,7 +3,7 @@ use Rattle.std.specs.List.{prefix_len}
 use Rattle.lexical_tables.specs.Cells.{is_blank}
 use Rattle.lexical_tables.proofs.content.blanks_in_front.Given as goal
 
--- so many blanks, and those that are left
+-- `count` blanks were counted, and the others are left
 abbrev pub invariant-loop-count : goal.invariant-loop-count
 invariant-loop-count l = record {
   within : l.count ≤ length l.text;

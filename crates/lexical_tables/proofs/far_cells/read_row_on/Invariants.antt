@@ -8,7 +8,7 @@ use Rattle.lexical_tables.specs.Rows.{first_row}
 use Rattle.lexical_tables.specs.Targets.{TargetView}
 use Rattle.lexical_tables.proofs.far_cells.read_row_on.Given as goal
 
--- so many cells were read
+-- `column` cells of the row were read
 abbrev pub invariant-loop-next : goal.invariant-loop-next
 invariant-loop-next g l =
     IsOnRow l.dialect l.separator l.text l.left.text.now

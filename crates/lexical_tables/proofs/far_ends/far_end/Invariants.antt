@@ -3,7 +3,7 @@ use Rattle.lexical_tables.specs.Ends.{is_end}
 use Rattle.lexical_tables.specs.Quotes.{has_odd_quotes}
 use Rattle.lexical_tables.proofs.far_ends.far_end.Given as goal
 
--- so many bytes were passed, and no cell ends there
+-- the first `place` bytes were passed, and no cell ends there
 abbrev pub invariant-loop-place : goal.invariant-loop-place
 invariant-loop-place l =
     (l.place ≤ length l.text)

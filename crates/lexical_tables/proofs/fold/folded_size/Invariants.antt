@@ -2,7 +2,7 @@ use Rattle.std.proofs.Common.{length, ◌-◌}
 use Rattle.lexical_tables.proofs.FoldSteps.{IsFolded}
 use Rattle.lexical_tables.proofs.fold.folded_size.Given as goal
 
--- so many bytes were counted
+-- the first `place` bytes were read, and `size` of them were counted
 abbrev pub invariant-loop-place : goal.invariant-loop-place
 invariant-loop-place l = IsFolded l.text l.place l.size l.is_odd
 

@@ -2,7 +2,7 @@ use Rattle.std.proofs.Common.{length, ◌-◌}
 use Rattle.lexical_tables.proofs.LineSteps.{IsCounted}
 use Rattle.lexical_tables.proofs.header.has_odd_quotes.Given as goal
 
--- so many bytes were counted
+-- the quotes among the first `place` bytes were counted
 abbrev pub invariant-loop-place : goal.invariant-loop-place
 invariant-loop-place l = IsCounted l.text l.place l.odd
 

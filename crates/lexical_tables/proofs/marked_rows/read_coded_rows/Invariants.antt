@@ -4,7 +4,7 @@ use Rattle.lexical_tables.specs.Ends.{AreEnds}
 use Rattle.lexical_tables.proofs.ColumnTables.{IsTablePut}
 use Rattle.lexical_tables.proofs.marked_rows.read_coded_rows.Given as goal
 
--- so many rows were read
+-- `count` rows were read
 abbrev pub invariant-loop-count : goal.invariant-loop-count
 invariant-loop-count g l =
     IsTablePut l.dialect l.rows l.text (map g.C.TableColumn.target l.initial.targets) (map g.C.TableColumn.target l.targets)

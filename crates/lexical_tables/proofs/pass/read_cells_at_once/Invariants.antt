@@ -5,7 +5,7 @@ use Rattle.lexical_tables.specs.Ends.{AreEnds}
 use Rattle.lexical_tables.specs.RowSoFar.{GoesOn, IsOnRow}
 use Rattle.lexical_tables.proofs.pass.read_cells_at_once.Given as goal
 
--- so many cells were read
+-- `column` cells of the row were read
 abbrev pub invariant-loop-column : goal.invariant-loop-column
 invariant-loop-column g l =
     IsOnRow l.dialect l.separator l.text l.left.text.now

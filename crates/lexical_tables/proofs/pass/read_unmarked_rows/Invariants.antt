@@ -2,7 +2,7 @@ use Rattle.std.proofs.Common.{◌≡◌, ◌-◌, None, map}
 use Rattle.lexical_tables.proofs.ColumnTables.{IsTablePut}
 use Rattle.lexical_tables.proofs.pass.read_unmarked_rows.Given as goal
 
--- so many rows were read
+-- `count` rows were read
 abbrev pub invariant-loop-count : goal.invariant-loop-count
 invariant-loop-count g l =
     IsTablePut l.dialect l.rows l.text (map g.C.TableColumn.target l.initial.targets) (map g.C.TableColumn.target l.targets)

@@ -2,7 +2,7 @@ use Rattle.std.proofs.Common.{length, ◌-◌}
 use Rattle.lexical_tables.specs.Looks.{IsPassed}
 use Rattle.lexical_tables.proofs.quotes.length_by_bytes.Given as goal
 
--- so many bytes were passed
+-- the first `place` bytes were passed
 abbrev pub invariant-loop-place : goal.invariant-loop-place
 invariant-loop-place l = IsPassed l.separator l.text l.place l.is_within
 

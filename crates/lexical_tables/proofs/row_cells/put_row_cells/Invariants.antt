@@ -4,7 +4,7 @@ use Rattle.lexical_tables.proofs.CellsLeft.{left_in}
 use Rattle.lexical_tables.proofs.RowCells.{ArePut}
 use Rattle.lexical_tables.proofs.row_cells.put_row_cells.Given as goal
 
--- where so many cells are was put
+-- `column` cells of the row were passed, and where they are was stored, from the cell `first` on
 abbrev pub invariant-loop-ended : goal.invariant-loop-ended
 invariant-loop-ended l =
     ArePut l.dialect (view_of_row l.row) l.first l.initial.cells l.cells l.column l.ended l.rest

@@ -2,7 +2,7 @@ use Rattle.std.proofs.Common.{◌≡◌, ◌-◌, ◌≤◌, length, take}
 use Rattle.std.specs.Prelude.{min, sum}
 use Rattle.lexical_tables.proofs.rows.record_size.Given as goal
 
--- the bytes of so many widths
+-- `size` is the sum of the first `column` widths, up to the limit
 abbrev pub invariant-loop-column : goal.invariant-loop-column
 invariant-loop-column l = record {
   few : l.column ≤ length l.widths;

@@ -4,7 +4,7 @@ use Rattle.lexical_tables.specs.Ends.{AreEndsIf}
 use Rattle.lexical_tables.proofs.skipped.Skipping.{IsSkipping}
 use Rattle.lexical_tables.proofs.skipping.skip_coded_rows.Given as goal
 
--- so many right rows and bad ones were read
+-- `count` right rows and `bad_count` bad ones were read
 abbrev pub invariant-loop-count : goal.invariant-loop-count
 invariant-loop-count g l =
     IsSkipping g.B.KeptRow.kept l.dialect l.rows l.text (map g.C.TableColumn.target l.initial.targets) l.initial.bad
