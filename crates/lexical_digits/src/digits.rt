@@ -53,8 +53,8 @@ pub(crate) fn number_of_digits(word: u64) -> u32
     parse_8digits(word, 10) as u32
 }
 
-// The number that the first digits of a word write, so many: what stands after them is shifted out, and digits 0 come
-// in front.
+// The number that the first `count` digits of a word write. What stands after them is shifted out,
+// and digits 0 come in front.
 #[inline(always)]
 pub(crate) fn number_of_front(word: u64, count: u32) -> u32
     requires some { 1 ≤ count }

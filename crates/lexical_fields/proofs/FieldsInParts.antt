@@ -78,7 +78,8 @@ pub whole_none : (separator byte : ℕ) (rest : List ℕ) → (byte == separator
     → list_any (λ b. b == separator) rest ≡ false → whole_fields separator (byte ∷ rest) ≡ 0
 whole_none separator byte rest e a = rw (e, a) refl
 
--- the fields of a text and more are those of so many bytes of it, and then those of all that is left
+-- the fields of `text` and `more` are those of the first `size` bytes of `text`, and then those of
+-- all the rest
 abbrev pub SplitsAt : ℕ → ℕ → List ℕ → List ℕ → ℕ → Type 0
 SplitsAt separator place text more size = fields_from separator place (text ++ more)
     ≡ fields_from separator place (take size text)

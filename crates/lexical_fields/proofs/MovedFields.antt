@@ -10,7 +10,7 @@ use Rattle.lexical_fields.specs.Fields.{FieldView, fields_from, onto_field}
 use Rattle.lexical_fields.specs.Places.{error_in_text, in_text}
 use Rattle.lexical_fields.specs.ReadFields.{field_answer}
 
--- a field that starts so many bytes further behind
+-- a field that starts `more` bytes later
 abbrev pub moved : ℕ → FieldView → FieldView
 moved more field = record { start = more + field.start; text = field.text }
 

@@ -35,7 +35,8 @@ abbrev pub next_start : ℕ → List FieldView → ℕ
 next_start end [] = end
 next_start end (field ∷ more) = field.start
 
--- so many fields were read, and reading stopped at a place, by a fault of the field there or without one
+-- `count` fields were read, and reading stopped at `place`: at the fault of the field there, or
+-- without one
 abbrev pub outcome_at : ℕ → ℕ → Option Error → Result Column ColumnError
 outcome_at count place None = Ok (record { count = count; stop = place })
 outcome_at count place (Some error) = Err (InvalidField count place error)

@@ -31,7 +31,7 @@ pub enum ColumnError {
     InvalidFormat(Error),
     /// A field is no number of the type. It is the first such one, and all before it were read.
     InvalidField {
-        /// Which field it is, counted from 0: so many numbers were read.
+        /// Which field it is, counted from 0. This is also how many numbers were read.
         field: usize,
         /// The place in the text at which it starts.
         start: usize,

@@ -9,7 +9,8 @@ use Rattle.lexical_parse_integer.specs.Runs.{are_same}
 use Rattle.lexical_fixed.specs.Fixed.{Fixed}
 use Rattle.lexical_fixed.specs.Fraction.{fraction, fraction_length, front_end, is_cut}
 
--- The fraction has so many digits, which are few, and they write a number; no more digits stand behind it.
+-- The fraction has `count` digits, fewer than eight, which write `number`; no more digits stand
+-- behind it.
 pub record IsFraction (fixed : Fixed) (text : List ℕ) (place number count : ℕ) : Type 0 where
   pub few : count < 8
   pub counted : fraction_length fixed text place ≡ count
@@ -43,8 +44,8 @@ pub record IsValueWithout (type : IntegerType) (is_negative : Bool) (place : ℕ
   pub worth : value ≡ with_sign is_negative number
   pub fits : IsNumber type value
 
--- The point stands in up to sixteen bytes, with a byte before it at least, and so many behind it, which are few: as many as
--- there are places, or fewer.
+-- The point stands in up to sixteen bytes, with at least one byte before it and `count` behind it,
+-- which are one to seven: as many as there are places, or fewer.
 pub record IsLastPoint (fixed : Fixed) (bytes : List ℕ) (place count : ℕ) : Type 0 where
   pub few : length bytes ≤ 16
   pub short : count ≤ 7

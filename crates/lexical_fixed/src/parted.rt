@@ -39,7 +39,8 @@ fn places_written(digits: &[u8], format: &FixedFormat) -> Option<usize>
     Some(0)
 }
 
-// The value of the digits of an integer part and a fraction of so many, as they are written.
+// The value of the digits as they are written: those of an integer part, and a fraction of `count`
+// digits.
 #[inline(always)]
 fn value_as_written<T: Integer>(digits: &[u8], count: usize, is_negative: bool) -> Option<T>
     requires bits { 32 ≤ T.TYPE.bits }

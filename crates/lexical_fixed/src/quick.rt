@@ -44,7 +44,8 @@ fn short_fraction(text: &[u8], format: &FixedFormat, place: usize) -> Option<(u3
     Some((number, count))
 }
 
-// Where a front ends behind an integer part that ends at a place, and so many digits: without them no point is read.
+// Where a front ends whose integer part ends at `place` and whose fraction has `count` digits: a
+// point without digits behind it isn't read.
 #[inline(always)]
 fn end_behind(place: usize, count: usize) -> usize
     requires { place + 1 + count < 2 ^ 64 }

@@ -24,7 +24,8 @@ pub(crate) fn is_bare(format: &NumberFormat) -> bool
         | format.no_integer_leading_zeros())
 }
 
-// The place of the point in so many to sixteen bytes, where it has so many behind it, seven at most, and a byte before it.
+// The place of the point in `least` to sixteen bytes, if `count` bytes stand behind it, which are
+// one to seven, and at least one before it.
 #[inline(always)]
 fn point_before(digits: &[u8], format: &FixedFormat, least: usize, count: usize) -> Option<usize>
     requires least { 3 ≤ least }

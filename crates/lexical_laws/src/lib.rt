@@ -114,8 +114,8 @@ pub fn foreign_bytes()
         → partial format type (text ++ byte ∷ rest) ≡ partial format type text }
 {}
 
-/// The tokens of two sources put together at a line feed are the tokens of both, those of the second so many bytes
-/// later. So a source may be read line by line.
+/// If a line feed joins two sources, the tokens of the whole are those of the first and then those
+/// of the second, moved by the length of the first plus 1. So a source may be read line by line.
 ///
 /// Under a format of your own the byte has to part tokens. With the prefix `x` and no separator none does: `0x` is the
 /// fault `Empty(2)`, but behind it a line feed makes it the number 0.

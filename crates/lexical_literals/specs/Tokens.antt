@@ -66,7 +66,7 @@ pub record TokenView : Type 0 where
   pub stop : ℕ
   pub text : List ℕ
 
--- the token that so many bytes of a text are, where the text stands at a place
+-- the token that the first `size` bytes of a text are, where the text stands at `start`
 abbrev pub token_of : ℕ → List ℕ → Kind × ℕ → TokenView
 token_of start text (kind, size) =
     record { kind = kind; start = start; stop = start + size; text = take size text }
@@ -77,7 +77,8 @@ token_at format start text = token_of start text (front_of format text)
 
 -- ---- all tokens
 
--- the tokens of a text that stands at a place, of which the first bytes, so many, belong to the token before it
+-- the tokens of a text that stands at `start`, whose first `taken` bytes belong to the token before
+-- it
 abbrev pub tokens_from : Format → ℕ → ℕ → List ℕ → List TokenView
 tokens_from format start taken [] = []
 tokens_from format start (suc taken) (byte ∷ rest) = tokens_from format (start + 1) taken rest

@@ -127,7 +127,7 @@ fn word_scale<T: Integer>(radix: u32) -> T
     }
 }
 
-// Whether a word more is within so many digits.
+// Whether one more word of digits behind the first `digits` makes no more than `most`.
 #[inline(always)]
 #[tactic(auto, unfolding(crate::specs::Turns::digits_per_word))]
 fn has_room<T: Integer>(digits: usize, most: usize) -> bool

@@ -23,7 +23,8 @@ use lexical_util::format::{self, NumberFormat};
 use lexical_util::num::Integer;
 use lexical_util::result::Result;
 
-// How many digits a text begins with, or more than so many: counted by words, whose numbers nobody asks for.
+// How many digits a text begins with if there are at most `most`, and else a number above `most`.
+// Words of digits are counted, and their numbers ignored.
 #[inline(always)]
 fn digits_in_front(text: &[u8], most: usize) -> usize
     requires some { 1 ≤ length text.now }
@@ -85,8 +86,9 @@ pub(in crate::algorithm) fn place_after_digits<T: Integer>(
     Some(start + count)
 }
 
-// How many digits of more than so many are read at once. Signed types have room for one decimal digit more than for digits of
-// any kind: where one stands there, and it makes whole words, it is read too.
+// How many digits are read at once where there are more than `most`. `most` is a bound for any
+// radix up to 16, and from 32 bits on a signed type has room for one more decimal digit. If one
+// stands there, it is read too, since this makes whole words.
 #[inline(always)]
 fn digits_at_once<T: Integer>(digits: &[u8], most: usize) -> usize
     requires some { 1 ≤ most }
