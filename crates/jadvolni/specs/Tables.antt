@@ -30,7 +30,7 @@ use Rattle.jadvolni.specs.declared.tables.TableOutcome.{TableOutcome}
 abbrev pub bits_of : List ℕ → Option (List ℕ)
 bits_of bytes = if length bytes == 0 then None else Some bytes
 
--- a column as a target, if its cells are read so, and its array has these values
+-- a column as a target whose cells are read by `reading`, and whose array has these values
 abbrev pub target_by : ColumnFields → Reading → Slice → List Value → TargetView
 target_by column reading slice values = record {
   reading = reading;

@@ -24,7 +24,7 @@ fn value_or_more(byte: u8) -> u64
     VALUES[byte as usize]
 }
 
-// The number of up to eight digits, and one from the limit on where a byte is no digit.
+// The number of up to eight digits, or a number from `LIMIT` on where a byte is no digit.
 #[inline(always)]
 fn number_or_more(text: &[u8]) -> u64
     requires few { length text.now ≤ 8 }
@@ -81,7 +81,8 @@ fn value_of_blocks<T: Integer>(digits: &[u8], size: usize, is_negative: bool) ->
     }
 }
 
-// The value of two or four digits, where a signed type of so few bits has it: it lacks half of their numbers.
+// The value of two digits as `i8`, or of four as `i16`, if the type has it: it lacks half of their
+// numbers.
 #[inline(always)]
 fn value_of_few<T: Integer>(digits: &[u8], is_negative: bool) -> Option<T>
     requires few { length digits.now ≤ 4 }

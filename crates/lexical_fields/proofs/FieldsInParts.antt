@@ -142,7 +142,7 @@ answers_moved format type separator place valid text =
     ∙ ap (map (field_answer format type)) (fields_moved separator place 0 text)
     ∙ ap (λ p. answers_from format type separator p text) (sym (same_place place))
 
--- parts behind what is left of those before them
+-- the answers of parts, with the bytes that those before them left, are those of all these bytes
 parts_behind : (format : Format) (type : IntegerType) (separator place : ℕ) → fault format ≡ None
     → (left : List ℕ) (parts : List (List ℕ)) → answers_of_parts format type separator place left parts
     ≡ answers_from format type separator place (left ++ concat parts)

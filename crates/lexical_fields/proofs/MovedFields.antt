@@ -1,4 +1,4 @@
--- The fields of a text that stands further behind: so do they, and their faults.
+-- Where a text stands further behind, so do its fields and their faults.
 use Rattle.std.proofs.Common.{◌≡◌, ◌∙◌, ℕ, ◌+◌, ◌==◌, List, [], ◌∷◌, map, ℤ, Result, None, Ok, Err, Bool, true, false, cond, refl, ap, arith}
 use Rattle.lexical_util.specs.declared.error.Error.{Error}
 use Rattle.lexical_util.specs.declared.error.Error.TheVariants.{Overflow, Underflow, InvalidDigit, Empty, MissingSign, InvalidPositiveSign, InvalidLeadingZeros, InvalidMantissaRadix, InvalidDigitSeparator, InvalidBasePrefix, InvalidBaseSuffix, InvalidPunctuation, InvalidLiteralPrefixes}
@@ -35,7 +35,7 @@ fields_moved separator more place (byte ∷ rest) =
     by_test false fs gs same =
         onto_moved more place byte fs ∙ ap (λ it. onto_field (more + place) byte it) same
 
--- a place that is counted from further in front
+-- a place counted from `q`, which is counted from `p`
 further : (p q k : ℕ) → p + (q + k) ≡ p + q + k
 further p q k = omega arith
 

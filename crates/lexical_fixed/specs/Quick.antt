@@ -36,7 +36,8 @@ pub record IsBare (format : Format) : Type 0 where
   pub no_sign : format.required_mantissa_sign ≡ false
   pub no_rule : format.no_integer_leading_zeros ≡ false
 
--- Bytes but for the one at a place are digits, whose number is a value of a type, with a minus where `is_negative`.
+-- All bytes but the one at `place` are digits, whose number is a value of a type, with a minus
+-- where `is_negative`.
 pub record IsValueWithout (type : IntegerType) (is_negative : Bool) (place : ℕ) (bytes : List ℕ)
     (value : ℤ) : Type 0 where
   pub number : ℕ
@@ -55,8 +56,8 @@ pub record IsLastPoint (fixed : Fixed) (bytes : List ℕ) (place count : ℕ) : 
   pub size : length bytes ≡ place + 1 + count
   pub point : are_same (Some fixed.point) (slice_get bytes place) ≡ true
 
--- A value is that of digits with fewer behind the point than there are places, as the description takes them, and zeros for
--- the others.
+-- A value is that of digits with fewer behind the point than there are places, which the
+-- description allows, and zeros for the missing ones.
 pub record IsFilled (fixed : Fixed) (type : IntegerType) (is_negative : Bool) (bytes : List ℕ)
     (value : ℤ) : Type 0 where
   pub place : ℕ

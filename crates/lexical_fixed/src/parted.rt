@@ -20,7 +20,8 @@ fn places_written(digits: &[u8], format: &FixedFormat) -> Option<usize>
     ensures { IfSome result (IsParted format.now digits.now) }
 {
     let size = digits.len();
-    // Most faults are bytes behind a number: then no digit is read in vain.
+    // Most faults are bytes behind a number. Without this test the digits before them would be read
+    // in vain.
     if size == 0 || !digits[size - 1].is_ascii_digit() {
         return None;
     }

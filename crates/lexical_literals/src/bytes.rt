@@ -119,8 +119,8 @@ fn long_word_length(text: &[u8]) -> usize
     place + short_word_length(&text[place..])
 }
 
-// How many bytes of a word a text begins with. The first four are looked at one by one: a word of up to three is soon
-// told so.
+// How many bytes of a word a text begins with. The first four are looked at one by one, so that a
+// word of up to three ends soon.
 #[inline(always)]
 pub(crate) fn word_length(text: &[u8]) -> usize
     ensures value { result ≡ word_length text.now }

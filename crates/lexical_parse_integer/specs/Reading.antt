@@ -68,14 +68,16 @@ pub record IsAtNumeral (cursor : CursorView) : Type 0 where
   pub sound : Folded (IsSound cursor)
   pub none : cursor.digits ≡ 0
 
--- the first digit was looked for, and taken where it has to be: one turn a digit, and without a separator one at most
+-- a cursor looked for the first digit, and took digits where it had to: one turn a digit, and
+-- without a separator at most one
 pub record LooksAhead (old new : CursorView) : Type 0 where
   pub goes_on : MovesOn old new
   pub turns : new.turns ≡ old.turns + new.digits
   pub count : new.digits ≤ digit_count (numeral_of old)
   pub one : IsNone old.format.digit_separator → new.digits ≤ 1
 
--- there is no zero too many in front, and a value is that of what was read: without a separator that is nothing, or all
+-- there is no zero too many in front, and a value is that of the digits read so far: without a
+-- separator these are none, or all, which are one at most
 pub record ReadsFirst (type : IntegerType) (is_negative radix_chosen : Bool) (old new : CursorView)
     (value : ℤ) : Type 0 where
   pub reads : Reads type is_negative (numeral_of old) new.digits value
@@ -114,7 +116,8 @@ pub record LeavesFewTurns (bits room : ℕ) (old new : CursorView) : Type 0 wher
       → new.turns + (digit_count (numeral_of old) - new.digits)
       ≤ turns_bound (digits_per_word bits) room (digit_count (numeral_of old))
 
--- one turn a digit where no words may be taken, and few turns where they are asked for, with one for each digit left
+-- one turn a digit where no words may be taken; where they are asked for, few turns, with one more
+-- for each digit that is left
 pub record LeavesTurns (bits : ℕ) (type : IntegerType) (no_multi_digit : Bool)
     (old new : CursorView) : Type 0 where
   pub each : IsTrue no_multi_digit → new.turns + old.digits ≡ old.turns + new.digits

@@ -1,5 +1,5 @@
--- How many turns some texts take: a bound by words, and one turn for each digit where digits are
--- taken one by one.
+-- How many turns some texts take: an upper bound by words, and one turn for each digit where digits
+-- are taken one by one.
 use Rattle.std.proofs.Common.{◌≡◌, ◌≤◌, ◌∙◌, ℕ, List, Result, Ok, Err, OnOk, Some, codes, false, true, refl, lit≤}
 use Rattle.std.proofs.lemmas.Result.{MatchResult-at_ok}
 use Rattle.lexical_util.specs.Format.{Format, standard}

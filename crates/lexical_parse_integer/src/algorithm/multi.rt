@@ -112,7 +112,7 @@ fn try_parse_word<T: Integer>(c: &mut Cursor<'_>) -> Option<T>
     word
 }
 
-// What a word moves the digits before it by.
+// What the number of the digits before a word is multiplied by.
 #[inline(always)]
 #[tactic(auto, unfolding(crate::specs::Turns::digits_per_word))]
 fn word_scale<T: Integer>(radix: u32) -> T

@@ -47,8 +47,8 @@ fn digits_in_front(text: &[u8], most: usize) -> usize
     count
 }
 
-// The place at which reading stops, where no digit stands behind the sign, or a byte behind digits for which their type
-// has room, whatever they are.
+// The place at which reading stops, if no digit stands behind the sign, or if another byte follows
+// digits that are few enough for the type, whatever they are.
 #[inline(always)]
 pub(in crate::algorithm) fn place_after_digits<T: Integer>(
     bytes: &[u8],
@@ -103,9 +103,10 @@ fn digits_at_once<T: Integer>(digits: &[u8], most: usize) -> usize
     }
 }
 
-// The answer for a text that has more digits than its type has surely room for: the number that they stand for, or the
-// fault at the digit with which the number leaves the type, or at the first byte that is no digit. The caller asks for zeros
-// in front, since a look at the first digit alone would have the compiler load the others one by one.
+// The answer for a text with more digits than surely fit its type: the number that they stand for,
+// or the fault at the digit with which the number leaves the type, or at the first byte that is no
+// digit. The caller tests for zeros in front, since a look at the first digit alone would have the
+// compiler load the others one by one.
 #[inline(always)]
 pub(in crate::algorithm) fn answer_after_digits<T: Integer>(
     bytes: &[u8],
