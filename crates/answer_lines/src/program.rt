@@ -14,7 +14,7 @@ use crate::settings::Settings;
 use std::alloc::Global;
 use std::io::{ErrorKind, Read, Write};
 
-/// After so many reads that don't come to the end, the input counts as refused.
+/// After this many reads without an end of the input, the input counts as refused.
 const MOST_READS: u64 = 4_294_967_296;
 
 /// How many bytes one read asks for.

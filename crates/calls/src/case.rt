@@ -129,8 +129,8 @@ fn how_in(word: &[u8]) -> Option<How> {
     (column.count == HOW_SIZE).then_some(How::of(&numbers))
 }
 
-/// The case that an input begins with, and what is behind it: `CALL TYPE FORMAT HOW SIZE TEXT`, where the text has so many
-/// bytes, and a line feed follows.
+/// The case that an input begins with, and what is behind it: `CALL TYPE FORMAT HOW SIZE TEXT`,
+/// where the text has `SIZE` bytes, and a line feed follows.
 pub fn next_case(input: &[u8]) -> Option<(Case<'_>, &[u8])> {
     let (call, rest) = word(input)?;
     let (type_name, rest) = word(rest)?;

@@ -23,7 +23,7 @@ impl Seen {
         }
     }
 
-    /// As much so many times.
+    /// These sums, `count` times over.
     pub fn times(&self, count: u64) -> Seen {
         Seen {
             numbers: self.numbers.wrapping_mul(count),

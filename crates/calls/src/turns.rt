@@ -5,7 +5,7 @@ use crate::seen::Seen;
 /// How many turns the first count has.
 const FEW: usize = 2;
 
-/// How many turns the second count has. The text is there so many times.
+/// How many turns the second count has, and how many copies of the text there are.
 pub const MANY: usize = 12;
 
 /// A call whose numbers are of a type.
@@ -25,8 +25,8 @@ impl Call<u64> for Nothing {
     }
 }
 
-/// Makes a call so many times, each time on another copy of its text. It stays a function of its own, at whose end
-/// callgrind is asked for a count.
+/// Makes a call `turns` times, each time on another copy of its text. This stays a function of its
+/// own, since callgrind is asked for a count at its end.
 #[inline(never)]
 pub fn take_turns<T, C: Call<T>>(call: &mut C, texts: &[u8], size: usize, turns: usize) -> Seen {
     let mut seen = Seen::new();

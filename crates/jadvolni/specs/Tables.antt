@@ -30,7 +30,7 @@ use Rattle.jadvolni.specs.declared.tables.TableOutcome.{TableOutcome}
 abbrev pub bits_of : List ℕ → Option (List ℕ)
 bits_of bytes = if length bytes == 0 then None else Some bytes
 
--- a column as a target, if its cells are read so, and its array has these values
+-- a column as a target whose cells are read by `reading`, and whose array has these values
 abbrev pub target_by : ColumnFields → Reading → Slice → List Value → TargetView
 target_by column reading slice values = record {
   reading = reading;
@@ -103,7 +103,7 @@ put_presence row is_there target =
 abbrev pub invalid_table : ℕ
 invalid_table = 17
 
--- whether there are bits, and too few for so many rows
+-- whether there are bits, and too few for `rows` rows
 abbrev pub lacks_bits : ℕ → Option (List ℕ) → Bool
 lacks_bits rows None = false
 lacks_bits rows (Some bytes) = nat_lt (8 * length bytes) rows
@@ -115,8 +115,8 @@ number_status description =
     else if description.places == 0 then format_status description.integer
     else fixed_format_status description
 
--- What is wrong with a target for so many rows. A column that is no target has the radix 0, if rows are asked for, and what
--- numbers look like doesn't count for texts.
+-- What is wrong with a target for `rows` rows. A column without a target has to have the radix 0 if
+-- rows are asked for. What numbers look like doesn't count for texts.
 abbrev pub target_status : ℕ → FixedFields → Option TargetView → ℕ
 target_status rows description None =
     if rows == 0 || description.integer.mantissa_radix == 0 then 0 else invalid_table
@@ -179,7 +179,8 @@ pub record TableEffect : Type 0 where
 abbrev pub table_effect : TableOutcome → List ColumnFields → TableEffect
 table_effect outcome columns = record { outcome = outcome; targets = map target_of columns }
 
--- How the cells of a row are found, where a table has so many columns: there are as many widths, or none; records have some.
+-- How the cells of a row are found in a table of `columns` columns: there are as many widths, or
+-- none; records have some.
 abbrev pub layout_of : TableFields → ℕ → Option Layout
 layout_of table columns =
     if length table.widths.now == 0
@@ -200,7 +201,8 @@ dialect_with table layout = record {
   missing = table.missing;
 }
 
--- how a table of so many columns is written, if what is kept for later versions is 0, and cells can be found
+-- how a table of `columns` columns is written, if what is kept for later versions is 0, and cells
+-- can be found
 abbrev pub dialect_of : TableFields → ℕ → Option Dialect
 dialect_of table columns =
     if are_zeros table.reserved then option_map (dialect_with table) (layout_of table columns)

@@ -34,7 +34,7 @@ fn are_zeros(bytes: [u8; 9]) -> bool
     (word == 0) & (last == 0)
 }
 
-// How the cells of a row are found, where a table has so many columns, if there is a way.
+// How the cells of a row are found in a table of `columns` columns, if there is a way.
 fn layout_of<'a>(table: &TableFields<'a>, columns: usize) -> Option<Layout<'a>>
     ensures { result ≡ layout_of table.now columns }
 {
@@ -60,7 +60,7 @@ fn layout_of<'a>(table: &TableFields<'a>, columns: usize) -> Option<Layout<'a>>
     })
 }
 
-// How a table of so many columns is written, if it can be read.
+// How a table of `columns` columns is written, if it can be read.
 pub(crate) fn dialect_of<'a>(table: &TableFields<'a>, columns: usize) -> Option<Dialect<'a>>
     ensures { result ≡ dialect_of table.now columns }
 {

@@ -78,13 +78,13 @@ bits_of_other count word above high is =
 
 -- ---- how many digits a word begins with
 
--- so many bytes of a word are digits, and the next is none
+-- the first `found` bytes of a word are digits, and the next is none
 pub record BeginsDigits (count word found : ℕ) : Type 0 where
   pub few : found ≤ count
   pub digits : AreAsciiDigits 10 (take found (word_bytes count word))
   pub stops : found < count → 10 ≤ (get_or (word_bytes count word) found 0 + 208) % 256
 
--- as many bits as a word of so many bytes has
+-- how many bits a word of `count` bytes has
 abbrev pub bits_in : ℕ → ℕ
 bits_in zero = zero
 bits_in (suc count) = eight_more (bits_in count)

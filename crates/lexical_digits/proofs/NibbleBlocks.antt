@@ -97,7 +97,7 @@ all_written r n text ds all worth =
 pub all_have : (r n : ℕ) (text : List ℕ) (w : WritesFront r text (length text) (pos n)) → HaveDigits r text w.values
 all_have r n text w = ap (map (λ byte. digit r byte)) (sym (take-length text)) ∙ w.digits
 
--- of the digits of a text, the first so many
+-- the number of the first `k` digits of a text
 first_worth : (r n k : ℕ) (text : List ℕ) (w : WritesFront r text (length text) (pos n)) → k ≤ length text → n / r ^ (length text - k) ≡ positional_value r (take k w.values)
 first_worth r n k text w few =
     let all = all_have r n text w in

@@ -51,6 +51,6 @@ never b e = cc
 pub front_fits : (t : IntegerType) (r o k : ℕ) (text : List ℕ) (value : ℤ) → HasRoom t r o → 1 ≤ r → k ≤ o → WritesFront r text k value → IsNumber t value
 front_fits t r o k text value room positive few w = ap (is_number t) w.worth ∙ few_fit t false r o (positional_value r w.values) k room (never t.is_signed) positive few w.below
 
--- the next number is one of the type, where a digit more is among so many
+-- the number with one more digit is one of the type, where the text has at most `o` digits
 pub next_fits : (t : IntegerType) (r o k d : ℕ) (text : List ℕ) (value next : ℤ) → HasRoom t r o → 1 ≤ r → WritesFront r text k value → k < length text → length text ≤ o → digit r (get_or text k 0) ≡ Some d → next ≡ mul_add false value (pos r) (pos d) → IsNumber t next
 next_fits t r o k d text value next room positive w more few is step = front_fits t r o (k + 1) text next room positive (omega arith) (next_read r k d text value next w more is step)

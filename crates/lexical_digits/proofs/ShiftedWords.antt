@@ -31,7 +31,7 @@ pub ascii_bytes : (bs : List ℕ) → AreAsciiDigits 10 bs → AllByRecursion (�
 ascii_bytes [] all = tt
 ascii_bytes (b ∷ bs) all = let high = all.0.1 in (omega arith, ascii_bytes bs all.1)
 
--- What a word is whose last digits are shifted out, so that so many stay.
+-- What a word is after its last digits are shifted out, so that the first `k` stay.
 pub record IsShifted (k word shifted : ℕ) : Type 0 where
   pub digits : AreDigits 10 (word_bytes 8 shifted)
   pub worth : word_value 10 (word_bytes 8 shifted) ≡ word_value 10 (take k (word_bytes 8 word))
@@ -98,7 +98,7 @@ whole_digits (a ∷ b ∷ c ∷ d ∷ e ∷ f ∷ g ∷ h ∷ []) first last low
     (fs.0, (fs.1.0, (fs.1.1.0, (fs.1.1.1.0, (ls.0, (ls.1.0, (ls.1.1.0, (ls.1.1.1.0, tt))))))))
 whole_digits (a ∷ b ∷ c ∷ d ∷ e ∷ f ∷ g ∷ h ∷ i ∷ rest) first last low high below is_first is_last front back = absurd (omega arith)
 
--- four digits, of which so many stay, behind digits 0
+-- four digits, of which the first `k` stay, behind digits 0
 shifted_half : (k a b c d : ℕ) → 1 ≤ k → k ≤ 4 → IsAsciiDigit 10 a → IsAsciiDigit 10 b → IsAsciiDigit 10 c → IsAsciiDigit 10 d →
     (bytes_number (a ∷ b ∷ c ∷ d ∷ []) - 808464432) * 2 ^ (32 - 8 * k) % 4294967296 + 808464432 ≡ bytes_number (padded (4 - k) (take k (a ∷ b ∷ c ∷ d ∷ [])))
 shifted_half zero a b c d low high ia ib ic id = absurd (omega arith)
@@ -108,7 +108,7 @@ shifted_half (suc (suc (suc zero))) a b c d low high ia ib ic id = omega (arith,
 shifted_half (suc (suc (suc (suc zero)))) a b c d low high ia ib ic id = omega (arith, ia.0, ia.1, ib.0, ib.1, ic.0, ic.1, id.0, id.1)
 shifted_half (suc (suc (suc (suc (suc k))))) a b c d low high ia ib ic id = absurd (omega arith)
 
--- What a word of four is whose last digits are shifted out, so that so many stay.
+-- What a word of four bytes is after its last digits are shifted out, so that the first `k` stay.
 pub record HoldsFront (k word shifted : ℕ) : Type 0 where
   pub small : shifted < 4294967296
   pub digits : AreDigits 10 (word_bytes 4 shifted)

@@ -76,7 +76,7 @@ front_of_word text word number count below is few digits worth stops =
 
 -- ---- the digits in front, behind digits 0
 
--- eight bytes, of which so many stay
+-- eight bytes, of which the first `k` stay
 shifted_in : (k a b c d e f g h : ℕ) → 1 ≤ k → k ≤ 8 → a < 256 → b < 256 → c < 256 → d < 256 → e < 256 → f < 256 → g < 256 → h < 256 → AreAsciiDigits 10 (take k (a ∷ b ∷ c ∷ d ∷ e ∷ f ∷ g ∷ h ∷ [])) →
     (bytes_number (a ∷ b ∷ c ∷ d ∷ e ∷ f ∷ g ∷ h ∷ []) + 14974415777481871312) % 18446744073709551616 * 2 ^ (64 - 8 * k) % 18446744073709551616 + 3472328296227680304
     ≡ bytes_number (padded (8 - k) (with_more 0 (take k (a ∷ b ∷ c ∷ d ∷ e ∷ f ∷ g ∷ h ∷ []))))
@@ -116,7 +116,7 @@ shifted_front k word some few small digits =
 
 -- ---- words behind the first
 
--- the bytes behind the first ones, so many
+-- the bytes behind the first `j`
 bytes_behind : (j : ℕ) (bytes : List ℕ) → AllBytes bytes → bytes_number bytes / 256 ^ j ≡ bytes_number (drop j bytes)
 bytes_behind zero bytes all = ap (λ n. bytes_number bytes / n) (pow-zero 256) ∙ omega arith
 bytes_behind (suc j) [] all = none (256 ^ suc j)

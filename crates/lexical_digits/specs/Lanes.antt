@@ -3,7 +3,7 @@ use Rattle.std.specs.Prelude.{ℕ, ◌+◌, ◌*◌, Bool, ◌&&◌, nat_le, nat
 use Rattle.std.specs.List.{list_all}
 use Rattle.lexical_util.specs.Ascii.{digit_zero}
 
--- whether a byte is from `0` to before so many digits
+-- whether a byte is one of the `radix` bytes from `0` on
 abbrev pub is_digit_lane : ℕ → ℕ → Bool
 is_digit_lane radix byte = nat_le digit_zero byte && nat_lt byte (digit_zero + radix)
 

@@ -20,14 +20,15 @@ pub record WritesDecimal (more : ℕ) (text : List ℕ) (number : ℕ) : Type 0 
   pub digits : AreDigits 10 (with_more more text)
   pub worth : number ≡ word_value 10 (with_more more text)
 
--- So many of the first eight bytes of a text are digits, which write a number, and no digit stands behind them there.
+-- A text begins with `count` digits, which write a number, and no digit follows them among its
+-- first eight bytes.
 pub record WritesFirst (text : List ℕ) (number count : ℕ) : Type 0 where
   pub few : count ≤ 8
   pub within : count ≤ length text
   pub writes : WritesDecimal 0 (take count text) number
   pub stops : count < 8 → count < length text → IsNone (digit 10 (get_or text count 0))
 
--- So many bytes at the front of a text are digits of the radix, and write a number.
+-- The first `count` bytes of a text are digits of the radix, and write a number.
 pub record WritesFront (radix : ℕ) (text : List ℕ) (count : ℕ) (number : ℤ) : Type 0 where
   pub values : List ℕ
   pub digits : map (λ byte. digit radix byte) (take count text) ≡ map Some values

@@ -43,7 +43,7 @@ fn half_at(text: &[u8], at: usize) -> u32
     u32::from_le_bytes([t[0], t[1], t[2], t[3]])
 }
 
-// The number that a word writes, of which it is known that it is eight digits.
+// The number that a word of eight digits writes.
 #[inline(always)]
 pub(crate) fn number_of_digits(word: u64) -> u32
     requires { AreDigits 10 (word_bytes 8 word) }
@@ -53,8 +53,8 @@ pub(crate) fn number_of_digits(word: u64) -> u32
     parse_8digits(word, 10) as u32
 }
 
-// The number that the first digits of a word write, so many: what stands after them is shifted out, and digits 0 come
-// in front.
+// The number that the first `count` digits of a word write. What stands after them is shifted out,
+// and digits 0 come in front.
 #[inline(always)]
 pub(crate) fn number_of_front(word: u64, count: u32) -> u32
     requires some { 1 ≤ count }
@@ -116,8 +116,8 @@ pub(crate) fn number_to_4(text: &[u8]) -> Option<u32>
     Some(((word - ZEROS).wrapping_mul(WEIGHTS[text.len()]) >> 48) as u32)
 }
 
-/// The number that four bytes write, of which it is known that they are digits: neighbours are joined in pairs, and the
-/// pairs by a product that adds them up in its high half.
+/// The number that a word of four digits writes: neighbours are joined in pairs, and the pairs by a
+/// product that adds them up in its high half.
 #[inline(always)]
 pub fn number_of_4digits(word: u32) -> u32
     requires { AreDigits 10 (word_bytes 4 word) }

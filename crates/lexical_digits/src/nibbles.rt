@@ -24,7 +24,7 @@ fn value_or_more(byte: u8) -> u64
     VALUES[byte as usize]
 }
 
-// The number of up to eight digits, and one from the limit on where a byte is no digit.
+// The number of up to eight digits, or a number from `LIMIT` on where a byte is no digit.
 #[inline(always)]
 fn number_or_more(text: &[u8]) -> u64
     requires few { length text.now ≤ 8 }
@@ -37,8 +37,9 @@ fn number_or_more(text: &[u8]) -> u64
     number
 }
 
-// The numbers of the last digits, so many, and of those before, which are no more: of the first so many, those that are
-// among the last too are shifted out.
+// The number of the digits before the last `size`, which are no more than these, and the number of
+// the last `size`. The first is read from the first `size` digits, of which those that are among
+// the last too are shifted out.
 #[inline(always)]
 fn numbers_of_blocks(text: &[u8], size: usize) -> Option<(u32, u32)>
     requires small { size ≤ 8 }
@@ -80,7 +81,8 @@ fn value_of_blocks<T: Integer>(digits: &[u8], size: usize, is_negative: bool) ->
     }
 }
 
-// The value of two or four digits, where a signed type of so few bits has it: it lacks half of their numbers.
+// The value of two digits as `i8`, or of four as `i16`, if the type has it: it lacks half of their
+// numbers.
 #[inline(always)]
 fn value_of_few<T: Integer>(digits: &[u8], is_negative: bool) -> Option<T>
     requires few { length digits.now ≤ 4 }
@@ -147,9 +149,9 @@ fn value_from_nine<T: Integer>(digits: &[u8], is_negative: bool) -> Option<T>
     value_of_blocks::<T>(digits, 8, is_negative)
 }
 
-/// The value of hexadecimal digits, where the type surely has room for so many, with a minus where `is_negative`. Each
-/// range of lengths ends on its own, so that no text pays for what another one needs. Out of line, so that decimal texts
-/// don't either.
+/// The value of hexadecimal digits, with a minus where `is_negative`, if the type surely has room
+/// for as many. `i8` and `i16` may have one digit more. Each range of lengths ends on its own, so
+/// that no text pays for what another one needs. Out of line, so that decimal texts don't either.
 #[inline(never)]
 pub fn value_of_nibbles<T: Integer>(digits: &[u8], is_negative: bool) -> Option<T>
     requires some { 1 ≤ length digits.now }

@@ -6,7 +6,7 @@ use Rattle.lexical_util.specs.Number.{IntegerType}
 use Rattle.lexical_fields.specs.Fields.{FieldView, field_length, fields_from, onto_field}
 use Rattle.lexical_fields.specs.ReadFields.{read_field, read_from}
 
--- the fields of a text whose first field has so many bytes
+-- the fields of a text whose first field has `n` bytes
 abbrev parted : ℕ → ℕ → List ℕ → ℕ → List FieldView
 parted s p bs n = record { start = p; text = take n bs } ∷ fields_from s (p + suc n) (drop (suc n) bs)
 

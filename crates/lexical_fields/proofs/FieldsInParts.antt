@@ -78,7 +78,8 @@ pub whole_none : (separator byte : ℕ) (rest : List ℕ) → (byte == separator
     → list_any (λ b. b == separator) rest ≡ false → whole_fields separator (byte ∷ rest) ≡ 0
 whole_none separator byte rest e a = rw (e, a) refl
 
--- the fields of a text and more are those of so many bytes of it, and then those of all that is left
+-- the fields of `text` and `more` are those of the first `size` bytes of `text`, and then those of
+-- all the rest
 abbrev pub SplitsAt : ℕ → ℕ → List ℕ → List ℕ → ℕ → Type 0
 SplitsAt separator place text more size = fields_from separator place (text ++ more)
     ≡ fields_from separator place (take size text)
@@ -141,7 +142,7 @@ answers_moved format type separator place valid text =
     ∙ ap (map (field_answer format type)) (fields_moved separator place 0 text)
     ∙ ap (λ p. answers_from format type separator p text) (sym (same_place place))
 
--- parts behind what is left of those before them
+-- the answers of parts, with the bytes that those before them left, are those of all these bytes
 parts_behind : (format : Format) (type : IntegerType) (separator place : ℕ) → fault format ≡ None
     → (left : List ℕ) (parts : List (List ℕ)) → answers_of_parts format type separator place left parts
     ≡ answers_from format type separator place (left ++ concat parts)

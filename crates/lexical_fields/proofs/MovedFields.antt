@@ -1,4 +1,4 @@
--- The fields of a text that stands further behind: so do they, and their faults.
+-- Where a text stands further behind, so do its fields and their faults.
 use Rattle.std.proofs.Common.{◌≡◌, ◌∙◌, ℕ, ◌+◌, ◌==◌, List, [], ◌∷◌, map, ℤ, Result, None, Ok, Err, Bool, true, false, cond, refl, ap, arith}
 use Rattle.lexical_util.specs.declared.error.Error.{Error}
 use Rattle.lexical_util.specs.declared.error.Error.TheVariants.{Overflow, Underflow, InvalidDigit, Empty, MissingSign, InvalidPositiveSign, InvalidLeadingZeros, InvalidMantissaRadix, InvalidDigitSeparator, InvalidBasePrefix, InvalidBaseSuffix, InvalidPunctuation, InvalidLiteralPrefixes}
@@ -10,7 +10,7 @@ use Rattle.lexical_fields.specs.Fields.{FieldView, fields_from, onto_field}
 use Rattle.lexical_fields.specs.Places.{error_in_text, in_text}
 use Rattle.lexical_fields.specs.ReadFields.{field_answer}
 
--- a field that starts so many bytes further behind
+-- a field that starts `more` bytes later
 abbrev pub moved : ℕ → FieldView → FieldView
 moved more field = record { start = more + field.start; text = field.text }
 
@@ -35,7 +35,7 @@ fields_moved separator more place (byte ∷ rest) =
     by_test false fs gs same =
         onto_moved more place byte fs ∙ ap (λ it. onto_field (more + place) byte it) same
 
--- a place that is counted from further in front
+-- a place counted from `q`, which is counted from `p`
 further : (p q k : ℕ) → p + (q + k) ≡ p + q + k
 further p q k = omega arith
 

@@ -129,7 +129,7 @@ taken_lowered n text few = take-map lowered n (take 16 text) ∙ ap (map lowered
     taken (suc n) (suc m) [] few = refl
     taken (suc n) (suc m) (x ∷ xs) few = ap (λ l. x ∷ l) (taken n m xs (omega arith))
 
--- the first bytes of a text, so many
+-- the first `n` bytes of a text, in threes behind zeros
 pub text_shuffled : (n : ℕ) (other lanes text : List ℕ) → n ≤ 12 → 16 ≤ length text → lanes ≡ map lowered (take 16 text)
     → swz_l w8 16 lanes 0 (get_or PLACES n other) ≡ in_threes (replicate (12 - n) 0 ++ map lowered (take n text))
 text_shuffled n other lanes text few room is =

@@ -35,7 +35,8 @@ abbrev pub next_start : ℕ → List FieldView → ℕ
 next_start end [] = end
 next_start end (field ∷ more) = field.start
 
--- so many fields were read, and reading stopped at a place, by a fault of the field there or without one
+-- `count` fields were read, and reading stopped at `place`, by the fault of the field there or
+-- without a fault
 abbrev pub outcome_at : ℕ → ℕ → Option Error → Result Column ColumnError
 outcome_at count place None = Ok (record { count = count; stop = place })
 outcome_at count place (Some error) = Err (InvalidField count place error)
@@ -73,8 +74,8 @@ unfoldable pub answer_of : Format → IntegerType → ℕ → ℕ → List ℕ �
 answer_of format type room separator text =
     answer_by (fault format) (column format type room separator text)
 
--- How far a text was read: as many fields as there are numbers, no more than there was room for, and up to a place of
--- the text from which on it has the fields that are left.
+-- How far a text was read: as many fields as there are numbers, no more than there was room for.
+-- From the place `stop` on, the text has the fields that are left.
 pub record GoesOn (separator : ℕ) (text : List ℕ) (room : ℕ) (numbers : List ℤ)
     (column : Column) : Type 0 where
   pub counted : column.count ≡ length numbers

@@ -9,7 +9,8 @@ use Rattle.lexical_fields.specs.Fields.{FieldView, fields, fields_from}
 abbrev pub left_of : ℕ → List ℕ → List ℕ → List FieldView
 left_of s text rest = fields_from s (length text - length rest) rest
 
--- So many numbers were read into a slice, and what is read of what is left, with them, is what is read of the text.
+-- `count` numbers were read into a slice. They and what is read of the rest are what is read of the
+-- whole text.
 pub record IsReadSoFar (T : Type 0) (number : T → ℤ) (f : Format) (t : IntegerType) (s : ℕ)
     (text : List ℕ) (old now : List T) (count : ℕ) (rest : List ℕ) : Type 0 where
   pub size : length now ≡ length old

@@ -29,9 +29,9 @@ pub struct Column {
 pub enum ColumnError {
     /// The format is invalid, and nothing was read.
     InvalidFormat(Error),
-    /// A field is no number of the type. It is the first such one, and all before it were read.
+    /// A field isn't a number of the type. It is the first such field, and all before it were read.
     InvalidField {
-        /// Which field it is, counted from 0: so many numbers were read.
+        /// Which field it is, counted from 0. This is also how many numbers were read.
         field: usize,
         /// The place in the text at which it starts.
         start: usize,
@@ -77,10 +77,10 @@ fn read_any_column<T: ParseInteger>(
 
 /// Reads the numbers in the fields of a text between a separator, as far as the slice has room.
 ///
-/// The numbers are at the slice's front, and the rest of the slice is as it was, also after a fault.
-/// Where the text has more fields than the slice has room for, it is read up to the start of the next
-/// one, and what is there isn't looked at: a call on the text from `stop` on goes on exactly there,
-/// and its places count from that `stop`. An invalid format is reported before all else.
+/// The numbers are at the slice's front, and the rest of the slice is as it was, also after a
+/// fault. If the text has more fields than the slice has room for, reading stops at the start of
+/// the next field, which isn't looked at. A call on the text from `stop` on continues exactly
+/// there, and its places count from that `stop`. An invalid format is reported before all else.
 ///
 /// With a comma, `12,7,` gives two numbers and stops at 5; in a slice of one it gives one number and
 /// stops at 3. `12,7x,1` gives `InvalidField` with `field` 1, `start` 3 and `InvalidDigit(4)`.

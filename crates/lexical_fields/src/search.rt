@@ -39,7 +39,8 @@ fn marks_of_64(bytes: &[u8], byte: u8) -> u64
         .to_bitmask()
 }
 
-// A text of so many bytes has marks: of its first 64, since sixteen more have to stand behind each.
+// The least length of a text that has marks. They are of its first 64 bytes, and sixteen more have
+// to stand behind each.
 pub(crate) const LEAST_MARKED: usize = 80;
 
 // The separators among the first bytes of a text, a bit for each, and none where the text is short.

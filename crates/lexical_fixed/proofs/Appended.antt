@@ -67,7 +67,7 @@ appended_none t b v ds s = record { digits = tt; worth = sym (with_digits-none b
 pub appended_sign : (t : IntegerType) (b : Bool) (v : ℤ) (ds : List ℕ) (now : ℤ) → HasSign b v → IsAppended t b v ds now → HasSign b now
 appended_sign t b v ds now s r = subst (HasSign b) (sym r.worth) (with_digits-sign b v ds s)
 
--- so many digits more
+-- `count` more digits
 pub appended_more : (t : IntegerType) (b : Bool) (v : ℤ) (ds : List ℕ) (k count : ℕ) (now part next : ℤ) → HasSign b v → k + count ≤ length ds → 1 ≤ count → IsAppended t b v (take k ds) now
     → StandsFor t 10 false (slice_range ds k (k + count)) part → ◌≡◌ {A = Option ℤ} (Some next) (number_if_fits t (mul_add b now (pos (10 ^ count)) part)) → IsAppended t b v (take (k + count) ds) next
 appended_more t b v ds k count now part next s within some r stands is =

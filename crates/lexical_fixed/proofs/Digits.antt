@@ -97,7 +97,7 @@ digit_among (d ∷ ds) (suc k) all l = digit_among ds k all.1 (omega arith)
 step_is : (b : Bool) (v : ℤ) (ds : List ℕ) (k : ℕ) → HasSign b v → k < length ds → mul_add b (with_digits b v (take k ds)) (pos 10) (pos (get_or ds k 0 - 48)) ≡ with_digits b v (take (k + 1) ds)
 step_is b v ds k s l = sym (ap (with_digits b v) (take_more ds k 0 l) ∙ with_digits-push b v (take k ds) (get_or ds k 0) s)
 
--- So many digits of a row have been read behind a number, and none took it out of the type.
+-- The first `k` digits of a row have been read behind a number, and none took it out of the type.
 pub record DigitsRead (t : IntegerType) (b : Bool) (v : ℤ) (ds : List ℕ) (k : ℕ) (now : ℤ) : Type 0 where
   pub start : HasSign b v
   pub value : now ≡ with_digits b v (take k ds)
@@ -157,7 +157,7 @@ is_number-below t true (suc m) (suc n) low fits =
     let below = lt-ltb m (number_limit t) (let h = ltb-true n (number_limit t) both.1 in omega arith) in
     and_made t.is_signed (nat_lt m (number_limit t)) both.0 below
 
--- So many zeros have been put behind a number, and none took it out of the type.
+-- `k` zeros have been put behind a number, and none took it out of the type.
 pub record ZerosRead (t : IntegerType) (b : Bool) (v : ℤ) (k : ℕ) (now : ℤ) : Type 0 where
   pub start : HasSign b v
   pub value : now ≡ with_zeros v k
@@ -186,7 +186,7 @@ zeros_more_are t b v k count now r =
     ap (λ z. mul_add b z (pos (10 ^ count)) (pos 0)) (r.value ∙ ap (λ z. with_zeros z k) n.is ∙ times_is b n.size (10 ^ k)) ∙ with_sign-step b (n.size * 10 ^ k) (10 ^ count) 0
     ∙ ap (with_sign b) sum ∙ sym (ap (λ z. with_zeros z (k + count)) n.is ∙ times_is b n.size (10 ^ (k + count)))
 
--- so many zeros more
+-- `count` more zeros
 pub zeros_more : (t : IntegerType) (b : Bool) (v : ℤ) (k count : ℕ) (now none next : ℤ) → ZerosRead t b v k now → none ≡ pos 0 → ◌≡◌ {A = Option ℤ} (Some next) (number_if_fits t (mul_add b now (pos (10 ^ count)) none)) → ZerosRead t b v (k + count) next
 zeros_more t b v k count now none next r is e =
     let told = some_told t next _ e in

@@ -11,7 +11,7 @@ use Rattle.lexical_parse_integer.specs.Runs.{are_same}
 use Rattle.lexical_fixed.specs.Fixed.{Fixed}
 use Rattle.lexical_fixed.specs.Fraction.{digits_from, fraction, fraction_length, has_point_at, is_cut}
 
--- digits in front of a text, so many at most
+-- where a text begins with at least `n` digits, its first `n` bytes are digits
 pub digits_taken : (n : ℕ) (bytes : List ℕ) → n ≤ prefix_len (λ byte. is_some (digit 10 byte)) bytes → AreDigits 10 (take n bytes)
 digits_taken zero bytes few = tt
 digits_taken (suc n) [] few = absurd (omega arith)
@@ -71,7 +71,7 @@ fraction_digits f text place = by_test (has_point_at f text place)
     by_test true = digits_taken _ (drop (place + 1) text) (min-le_right f.places (prefix_len (λ byte. is_some (digit 10 byte)) (drop (place + 1) text)))
     by_test false = tt
 
--- so many bytes behind the point are the fraction
+-- the `count` bytes behind the point are the fraction
 pub fraction_there : (f : Fixed) (text : List ℕ) (place count : ℕ) → count ≡ fraction_length f text place → slice_range text (place + 1) (place + 1 + count) ≡ fraction f text place
 fraction_there f text place count is =
     let size : place + 1 + count - (place + 1) ≡ count = omega arith in

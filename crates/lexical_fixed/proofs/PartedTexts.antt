@@ -35,7 +35,8 @@ use Rattle.lexical_fixed.proofs.Units.{by_zeros}
 use Rattle.lexical_fixed.proofs.Valid.{is_none}
 use Rattle.lexical_fixed.proofs.WholeByFront.{no_point_at_end}
 
--- What stands behind an integer part up to the text's end: a fraction of so many digits behind the point, or nothing.
+-- What stands behind an integer part up to the text's end: a point and a fraction of `count`
+-- digits, or nothing.
 record EndsWith (f : Fixed) (text rest : List ℕ) (place count : ℕ) : Type 0 where
   counted : fraction_length f text place ≡ count
   digits : fraction f text place ≡ rest

@@ -3,7 +3,7 @@ use Rattle.std.proofs.Common.{◌≡◌, ℕ, zero, suc, ◌+◌, ◌<◌, ◌�
 use Rattle.std.specs.Prelude.{find}
 use Rattle.std.specs.List.{range_with_len}
 
--- so many places fail, and the next one passes
+-- the first `before` places fail, and the next one passes
 pub find_place : (test : ℕ → Bool) (from count before : ℕ) → before < count → ((at : ℕ) → at < from + before → from ≤ at → test at ≡ false) → test (from + before) ≡ true
     → find test (range_with_len from count) ≡ Some (from + before)
 find_place test from zero before more fail here = absurd (omega arith)

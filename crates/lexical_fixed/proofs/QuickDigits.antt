@@ -75,7 +75,7 @@ no_zeros_fault t b v zeros place fits = rw fits (by_test (nat_lt 0 zeros))
     by_test true = refl
     by_test false = refl
 
--- so many digits in front of a text, and none behind them
+-- `count` digits stand in front of a text, and none behind them
 pub prefix_is : (bytes : List ℕ) (count : ℕ) → count ≤ length bytes → AreDigits 10 (take count bytes) → (count < length bytes → IsNone (digit 10 (get_or bytes count 0))) → prefix_len (λ byte. is_some (digit 10 byte)) bytes ≡ count
 prefix_is [] zero within digits stops = refl
 prefix_is [] (suc n) within digits stops = absurd (omega arith)

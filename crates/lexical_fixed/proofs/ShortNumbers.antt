@@ -138,7 +138,7 @@ plain_of f valid bare =
       no_sign = bare.no_sign;
     }
 
--- the number of digits with so many behind the point, and zeros for the places that lack
+-- the number of digits, with `count` of them behind the point, and zeros for the missing places
 pub point_read : (f : Fixed) (t : IntegerType) (b : Bool) (text digits : List ℕ) (place count number : ℕ) (written units : ℤ) (zeros : ℕ) → IsNone (fixed_fault f) → IsBare f.integer → (IsNone f.integer.base_suffix → TellsDigits f.integer t text)
     → IsBehind b t text digits → b ≡ is_negative t text → IsLastPoint f digits place count → IsJoined (without place digits) number → written ≡ with_sign b number → IsNumber t written
     → zeros ≡ f.places - count → (f.places ≤ count) ⊎ (f.takes_fewer ≡ true)

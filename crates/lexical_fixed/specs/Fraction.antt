@@ -95,7 +95,7 @@ read_digits type is_negative number digits place =
     first_fault_or (digits_fault type is_negative number digits place ∷ [])
     (with_digits is_negative number digits)
 
--- a number with so many zeros behind it that aren't written, or a fault at a place
+-- a number with `zeros` zeros behind it that aren't written, or a fault at a place
 abbrev pub read_zeros : IntegerType → Bool → ℤ → ℕ → ℕ → Result ℤ Error
 read_zeros type is_negative number zeros place =
     first_fault_or (zeros_fault type is_negative number zeros place ∷ []) (with_zeros number zeros)

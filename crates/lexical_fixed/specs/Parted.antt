@@ -6,8 +6,8 @@ use Rattle.lexical_parse_integer.specs.Runs.{are_same}
 use Rattle.lexical_fixed.specs.Append.{IsAppended}
 use Rattle.lexical_fixed.specs.Fixed.{Fixed}
 
--- So many bytes stand behind the point, and some before it, or none and there is no point: as many as there are places, or
--- fewer where the description takes that.
+-- `count` bytes stand behind the point and at least one before it, or `count` is 0 and there is no
+-- point. `count` is the number of places, or less where the description takes fewer.
 pub record IsParted (fixed : Fixed) (bytes : List ℕ) (count : ℕ) : Type 0 where
   pub some : 1 ≤ length bytes
   pub room : count ≤ fixed.places
@@ -16,11 +16,12 @@ pub record IsParted (fixed : Fixed) (bytes : List ℕ) (count : ℕ) : Type 0 wh
   pub point : 1 ≤ count
       → are_same (Some fixed.point) (slice_get bytes (length bytes - 1 - count)) ≡ true
 
--- where the bytes before the point end, where so many stand behind it
+-- where the bytes before the point end, if `count` bytes stand behind it: 0 is a text without a
+-- point
 abbrev pub point_place : List ℕ → ℕ → ℕ
 point_place bytes count = if count == 0 then length bytes else length bytes - 1 - count
 
--- A value is that of the digits before the point, and of so many behind it.
+-- A value is that of the digits before the point and of the `count` digits behind it.
 pub record IsSummed (type : IntegerType) (is_negative : Bool) (bytes : List ℕ) (count : ℕ)
     (value : ℤ) : Type 0 where
   pub whole : ℤ

@@ -9,7 +9,8 @@ use Rattle.lexical_parse_integer.specs.Runs.{are_same}
 use Rattle.lexical_fixed.specs.Fixed.{Fixed}
 use Rattle.lexical_fixed.specs.Fraction.{fraction, fraction_length, front_end, is_cut}
 
--- The fraction has so many digits, which are few, and they write a number; no more digits stand behind it.
+-- The fraction has `count` digits, fewer than eight, which write `number`; no more digits stand
+-- behind it.
 pub record IsFraction (fixed : Fixed) (text : List ℕ) (place number count : ℕ) : Type 0 where
   pub few : count < 8
   pub counted : fraction_length fixed text place ≡ count
@@ -35,7 +36,8 @@ pub record IsBare (format : Format) : Type 0 where
   pub no_sign : format.required_mantissa_sign ≡ false
   pub no_rule : format.no_integer_leading_zeros ≡ false
 
--- Bytes but for the one at a place are digits, whose number is a value of a type, with a minus where `is_negative`.
+-- All bytes but the one at `place` are digits, whose number is a value of a type, with a minus
+-- where `is_negative`.
 pub record IsValueWithout (type : IntegerType) (is_negative : Bool) (place : ℕ) (bytes : List ℕ)
     (value : ℤ) : Type 0 where
   pub number : ℕ
@@ -43,8 +45,8 @@ pub record IsValueWithout (type : IntegerType) (is_negative : Bool) (place : ℕ
   pub worth : value ≡ with_sign is_negative number
   pub fits : IsNumber type value
 
--- The point stands in up to sixteen bytes, with a byte before it at least, and so many behind it, which are few: as many as
--- there are places, or fewer.
+-- The point stands in up to sixteen bytes, with at least one byte before it and `count` behind it,
+-- which are one to seven: as many as there are places, or fewer.
 pub record IsLastPoint (fixed : Fixed) (bytes : List ℕ) (place count : ℕ) : Type 0 where
   pub few : length bytes ≤ 16
   pub short : count ≤ 7
@@ -54,8 +56,8 @@ pub record IsLastPoint (fixed : Fixed) (bytes : List ℕ) (place count : ℕ) : 
   pub size : length bytes ≡ place + 1 + count
   pub point : are_same (Some fixed.point) (slice_get bytes place) ≡ true
 
--- A value is that of digits with fewer behind the point than there are places, as the description takes them, and zeros for
--- the others.
+-- A value is that of digits with fewer behind the point than there are places, which the
+-- description allows, and zeros for the missing ones.
 pub record IsFilled (fixed : Fixed) (type : IntegerType) (is_negative : Bool) (bytes : List ℕ)
     (value : ℤ) : Type 0 where
   pub place : ℕ

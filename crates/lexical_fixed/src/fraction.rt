@@ -55,7 +55,7 @@ pub(crate) fn digits_behind(text: &[u8], format: &FixedFormat, place: usize) -> 
     count_digits(&text[place + 1..])
 }
 
-// The digits of the fraction, which has so many.
+// The `count` digits of the fraction.
 #[inline(always)]
 pub(crate) fn fraction<'a>(
     text: &'a [u8],

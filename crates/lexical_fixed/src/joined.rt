@@ -40,7 +40,7 @@ fn word_without(word: u64, place: usize) -> u64
     word - ((behind - (behind >> 8)) << shift)
 }
 
-// So many bytes of a word behind digits 0: the word has no more bytes.
+// A word's `count` bytes behind digits 0. The word has no more bytes than these.
 #[inline(always)]
 fn behind_zeros(word: u64, count: usize) -> u64
     requires some { 1 ≤ count }

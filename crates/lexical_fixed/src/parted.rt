@@ -20,7 +20,8 @@ fn places_written(digits: &[u8], format: &FixedFormat) -> Option<usize>
     ensures { IfSome result (IsParted format.now digits.now) }
 {
     let size = digits.len();
-    // Most faults are bytes behind a number: then no digit is read in vain.
+    // Most faults are bytes behind a number. Without this test the digits before them would be read
+    // in vain.
     if size == 0 || !digits[size - 1].is_ascii_digit() {
         return None;
     }
@@ -39,7 +40,8 @@ fn places_written(digits: &[u8], format: &FixedFormat) -> Option<usize>
     Some(0)
 }
 
-// The value of the digits of an integer part and a fraction of so many, as they are written.
+// The value of the digits as they are written: those of an integer part, and a fraction of `count`
+// digits.
 #[inline(always)]
 fn value_as_written<T: Integer>(digits: &[u8], count: usize, is_negative: bool) -> Option<T>
     requires bits { 32 ≤ T.TYPE.bits }

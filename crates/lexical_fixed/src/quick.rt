@@ -1,8 +1,9 @@
 //! The parsers in two halves, under a valid description: for this crate, and for calls from C.
 //!
-//! The first half has at once what most texts are, and its `None` says nothing of a text. The second half, for what the first
-//! one left, has the answer. Up to fifteen digits around a point are read by one word or two, and a longer text from its point.
-//! Fronts are read in one walk, where the integer part is digits alone and the fraction is short.
+//! The first half reads most texts at once, and its `None` says nothing of a text. The second half
+//! has the answer for what the first one left. Up to fifteen digits around a point are read by one
+//! word or two, and a longer text from its point. Fronts are read in one walk, where the integer
+//! part is digits alone and the fraction is short.
 ghost use Rattle.std.specs.Prelude.{◌≡◌, ◌==◌, ◌≤◌, ◌<◌, ◌+◌, ◌^◌, if◌then◌else◌, IfSome, IsNone, Ok, length, pos, true};
 ghost use Rattle.lexical_util.specs.Number.{HasSign, is_number, mul_add};
 ghost use Rattle.lexical_parse_integer.specs.Answer.{with_place};
@@ -23,7 +24,8 @@ use lexical_parse_integer::quick::front_if_plain;
 use lexical_parse_integer::stops_after_digit;
 use lexical_util::num::Integer;
 
-// The number of the fraction, and how many digits it has, where they are few.
+// The number of the fraction and how many digits it has, if these are one to seven. Both are 0
+// without a point.
 #[inline(always)]
 fn short_fraction(text: &[u8], format: &FixedFormat, place: usize) -> Option<(u32, usize)>
     requires { place ≤ length text.now }
@@ -44,7 +46,8 @@ fn short_fraction(text: &[u8], format: &FixedFormat, place: usize) -> Option<(u3
     Some((number, count))
 }
 
-// Where a front ends behind an integer part that ends at a place, and so many digits: without them no point is read.
+// Where a front ends whose integer part ends at `place` and whose fraction has `count` digits: a
+// point without digits behind it isn't read.
 #[inline(always)]
 fn end_behind(place: usize, count: usize) -> usize
     requires { place + 1 + count < 2 ^ 64 }

@@ -24,7 +24,8 @@ pub(crate) fn is_bare(format: &NumberFormat) -> bool
         | format.no_integer_leading_zeros())
 }
 
-// The place of the point in so many to sixteen bytes, where it has so many behind it, seven at most, and a byte before it.
+// The place of the point in `least` to sixteen bytes, if `count` bytes stand behind it, which are
+// one to seven, and at least one before it.
 #[inline(always)]
 fn point_before(digits: &[u8], format: &FixedFormat, least: usize, count: usize) -> Option<usize>
     requires least { 3 ≤ least }
@@ -55,8 +56,8 @@ pub(crate) fn behind_minus<T: Integer>(text: &[u8]) -> (bool, &[u8])
     (is_negative, &text[usize::from(is_negative)..])
 }
 
-// The value of the digits of nine to sixteen bytes around the one at a place, which is among the last eight, where the type has
-// it.
+// The value of the digits of nine to sixteen bytes but for the byte at `place`, which is among the
+// last eight, if the type has that value.
 #[inline(always)]
 fn value_from_9<T: Integer>(digits: &[u8], place: usize, is_negative: bool) -> Option<T>
     requires some { 9 ≤ length digits.now }
@@ -67,7 +68,8 @@ fn value_from_9<T: Integer>(digits: &[u8], place: usize, is_negative: bool) -> O
     ensures { IfSome result
         (λ value. IsValueWithout T.TYPE is_negative place digits.now (T.number value)) }
 {
-    // Ten digits from 5 on are too many for 32 bits: so a fault is known before its digits are read.
+    // Ten digits or more that begin with 5 or above don't fit 32 bits: so a fault is known before
+    // they are read.
     if T::BITS <= 32 && digits.len() > 10 && digits[0] > b'4' {
         return None;
     }
@@ -77,7 +79,7 @@ fn value_from_9<T: Integer>(digits: &[u8], place: usize, is_negative: bool) -> O
     value_of_parts::<T>(high, low, 10_000_000, is_negative)
 }
 
-// The value of the digits of four to eight bytes around the one at a place, where the type has it.
+// The value of the digits of four to eight bytes but for the byte at `place`, if the type has it.
 #[inline(always)]
 fn value_from_4<T: Integer>(digits: &[u8], place: usize, is_negative: bool) -> Option<T>
     requires some { 4 ≤ length digits.now }
@@ -93,7 +95,7 @@ fn value_from_4<T: Integer>(digits: &[u8], place: usize, is_negative: bool) -> O
     }
 }
 
-// The value of the digits of three bytes around the second.
+// The value of the digits before and behind the middle one of three bytes.
 #[inline(always)]
 fn value_of_3<T: Integer>(digits: &[u8], is_negative: bool) -> Option<T>
     requires three { length digits.now ≡ 3 }
@@ -104,7 +106,8 @@ fn value_of_3<T: Integer>(digits: &[u8], is_negative: bool) -> Option<T>
     value_to_16::<T>(&[digits[0], digits[2]], is_negative)
 }
 
-// The value of the digits of four to sixteen bytes around the one at a place, which is among the last eight.
+// The value of the digits of four to sixteen bytes but for the byte at `place`, which is among the
+// last eight.
 #[inline(always)]
 fn value_around<T: Integer>(digits: &[u8], place: usize, is_negative: bool) -> Option<T>
     requires some { 4 ≤ length digits.now }
@@ -121,7 +124,8 @@ fn value_around<T: Integer>(digits: &[u8], place: usize, is_negative: bool) -> O
     value_from_9::<T>(digits, place, is_negative)
 }
 
-// The value of the digits of three to sixteen bytes around the one at a place, which is among the last eight and not the last.
+// The value of the digits of three to sixteen bytes but for the byte at `place`, which is among the
+// last eight and isn't the last.
 #[inline(always)]
 fn value_by_point<T: Integer>(digits: &[u8], place: usize, is_negative: bool) -> Option<T>
     requires some { 3 ≤ length digits.now }

@@ -32,7 +32,7 @@ pub data IsSuffix (format : Format) (digits : List ℕ) : List ℕ → Type 0 wh
 abbrev pub is_separator : Format → ℕ → Bool
 is_separator format byte = are_same format.digit_separator (Some byte)
 
--- A body has so many separators in a row between two parts, and no further one beside them.
+-- A body has a run of `count` separators between two parts, and no other separator next to the run.
 pub record HasRun (format : Format) (body before : List ℕ) (count : ℕ) (behind : List ℕ)
     : Type 0 where
   pub separator : ℕ

@@ -44,11 +44,13 @@ pub fn types()
         → IsRangeFault (complete format other text) }
 {}
 
-/// The number in front of a text is an integer by itself (`whole`). Where the format has no separator, and no fault
-/// comes first, it is the only front that is an integer and that no text going on as this one does is (`longest`).
+/// The number in front of a text is an integer by itself (`whole`). Where the format has no
+/// separator and no fault comes first, it is the longest front that is one: no text that begins
+/// with it and the byte behind it is an integer. No other front is like that (`longest`).
 ///
-/// The longest front of `12x` is `12`. A fault comes first in `256` as `u8`, though `25` is one: it is `Overflow(2)`.
-/// With separators a longer front may be an integer: where they may trail alone, `1` is read of `1_2`, and `1_` is one.
+/// The longest front of `12x` is `12`. In `256` as `u8` a fault comes first, though `25` is an
+/// integer: the answer is `Overflow(2)`. With separators a longer front may be an integer: where
+/// they may only trail, `1` is read of `1_2`, and `1_` is an integer too.
 pub fn fronts()
     ensures whole { (format : Format) (type : IntegerType) (text : List ℕ) (value : ℤ) (place : ℕ)
         → IsNone (fault format) → number_in_front format type text ≡ Ok (value, place)
@@ -68,8 +70,8 @@ pub fn fronts()
 /// A text keeps its value under a format that admits more: punctuation where there was none, separators in more places, or
 /// less that is asked for.
 ///
-/// So a program may relax its format, and what it has read before stays as it was. Octal zeros and literal prefixes
-/// stay out of it: they give digits another worth.
+/// So a program may relax its format, and what it read before keeps its value. Octal zeros and
+/// literal prefixes have to stay as they are: they change what digits are worth.
 pub fn relaxing()
     ensures { (strict loose : Format) (type : IntegerType) (text : List ℕ) (value : ℤ)
         → IsNone (fault strict) → IsNone (fault loose) → AdmitsMore strict loose
@@ -79,9 +81,10 @@ pub fn relaxing()
 /// Nothing repairs a fault: no text with the same bytes up to and including its place has a value, under a valid format
 /// without a separator byte and without the rule on leading zeros.
 ///
-/// So whoever reads byte after byte may stop there. A fault at the text's end is about no byte: `+` is `Empty(1)`, and
-/// `+1` is 1. With a separator more bytes may mend a text: `0_` may be `InvalidDigit(1)`, and `0_0` a value. So they
-/// may under the zero rule, which blames the zero in `01`.
+/// So whoever reads byte after byte may stop there. A fault at the text's end is about no byte: `+`
+/// is `Empty(1)`, and `+1` is 1. With a separator, more bytes may repair a text: `0_` may be
+/// `InvalidDigit(1)`, and `0_0` a value. The rule on leading zeros blames the zero in `01`, and `0`
+/// alone has a value.
 pub fn dead_places()
     ensures { (format : Format) (type : IntegerType) (text : List ℕ) (error : Error) (place : ℕ)
         → IsNone (fault format) → IsNone format.digit_separator
@@ -95,9 +98,10 @@ pub fn dead_places()
 /// What stands behind a byte that is no part of a number counts for nothing: the front is read as if the text ended
 /// before the byte.
 ///
-/// `12;3` is read as `12` is. A text of which the end is missing may be read otherwise: with the prefix `x` and no
-/// separator `0x` is `Empty(2)`, and of `0x;` the front `0x` is 0. So the text isn't one (`read`), or the format asks
-/// for a digit and has a separator (`asked`), or it has no prefix and the text begins with a digit (`digit`).
+/// `12;3` is read as `12` is. A text that lacks its end may be read otherwise: with the prefix `x`
+/// and no separator, `0x` is `Empty(2)`, but of `0x;` the front `0x` is 0. So either the text isn't
+/// such a one (`read`), or the format asks for a digit and has a separator (`asked`), or it has no
+/// prefix and the text begins with a digit (`digit`).
 pub fn foreign_bytes()
     ensures read { (format : Format) (type : IntegerType) (text rest : List ℕ) (byte : ℕ)
         → IsNone (fault format) → IsForeign format byte
@@ -114,11 +118,11 @@ pub fn foreign_bytes()
         → partial format type (text ++ byte ∷ rest) ≡ partial format type text }
 {}
 
-/// The tokens of two sources put together at a line feed are the tokens of both, those of the second so many bytes
-/// later. So a source may be read line by line.
+/// If a line feed joins two sources, the tokens of the whole are those of the first and then those
+/// of the second, moved by the length of the first plus 1. So a source may be read line by line.
 ///
-/// Under a format of your own the byte has to part tokens. With the prefix `x` and no separator none does: `0x` is the
-/// fault `Empty(2)`, but behind it a line feed makes it the number 0.
+/// Under a format of your own the byte has to part tokens. With the prefix `x` and no separator no
+/// byte does: `0x` is the fault `Empty(2)`, but a line feed behind it makes it the number 0.
 pub fn joined_sources()
     ensures lines { (first second : List ℕ)
         → tokens (first ++ line_feed ∷ second)
@@ -134,8 +138,8 @@ pub fn joined_sources()
 /// Separators count for nothing: a text has the same value without them, under a valid format that asks for a digit and
 /// has no octal zeros.
 ///
-/// Else a separator may part what would be read together: `-_09` is -9 and `-09` a fault under octal zeros. And where
-/// no digit is asked for, `0x_` may be 0, but `0x` is `Empty(2)`.
+/// Otherwise a separator may part what would be read together: under octal zeros `-_09` is -9, and
+/// `-09` is a fault. And where no digit is asked for, `0x_` may be 0, but `0x` is `Empty(2)`.
 pub fn separators()
     ensures { (format : Format) (type : IntegerType) (text : List ℕ) (value : ℤ)
         → IsNone (fault format) → format.literal_octal_zero ≡ false
@@ -145,8 +149,8 @@ pub fn separators()
 
 /// JSON's texts are canonical: a text that is read under `format::JSON` is what std prints of its value, or `-0`.
 ///
-/// So signatures and keys of caches may be made of texts: but for `-0`, value and text go one to one, since what is
-/// printed is read back (`laws::numeral`).
+/// So signatures and cache keys may be made of texts: except for `-0`, each value has one text,
+/// since what is printed is read back (`laws::numeral`).
 pub fn json_texts()
     ensures { (type : IntegerType) (text : List ℕ) (value : ℤ) → type.bits ≤ 128
         → complete json type text ≡ Ok value
@@ -155,8 +159,9 @@ pub fn json_texts()
     numerals();
 }
 
-/// Letter case counts for nothing: two texts that are the same but for it have the same value, under a valid format
-/// whose prefix and suffix look at no letter case, and whose separator is no letter.
+/// Letter case counts for nothing: two texts that differ only in letter case have the same value,
+/// under a valid format whose prefix and suffix ignore letter case, and whose separator is no
+/// letter.
 ///
 /// In radix 16 with the prefix `x`, `0xFf` and `0XfF` are both 255. With the separator `x`, `1x0` may be 10, but `1X0`
 /// is no integer.

@@ -130,9 +130,9 @@ pub skipped_ahead : (v a b : List ℕ) → length v ≡ 16 → a ≡ map by_lowe
 skipped_ahead v a b long first second fits =
     lanes_tell by_lower skipped_by_upper v a b long first second is_skipped skipped_by_halves fits
 
--- ---- how many stand in front of a text, so many by so many
+-- ---- how many stand in front of a text, block by block
 
--- all of the first bytes, so many, pass
+-- all of the first `n` bytes pass
 all_of : (p : ℕ → Bool) (n : ℕ) (v : List ℕ) → n ≤ length v → prefix_len p (take n v) ≡ n
     → prefix_len p v ≡ n + prefix_len p (drop n v)
 all_of p zero v few all = omega arith

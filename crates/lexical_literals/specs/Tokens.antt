@@ -41,8 +41,8 @@ literals = record standard {
 abbrev pub word_length : List ℕ → ℕ
 word_length text = prefix_len is_word_byte text
 
--- what a text begins with whose front is parsed so, and how many bytes that has: the number, or the fault, which goes
--- over the bytes of a word
+-- the number or the fault that a text begins with, by how its front is parsed, and how many bytes
+-- that has: a fault goes over the bytes of a word
 abbrev pub number_by : List ℕ → Result (ℤ × ℕ) Error → Kind × ℕ
 number_by text (Ok found) = (Number (nat_abs found.0), found.1)
 number_by text (Err fault) = (Fault fault, word_length text)
@@ -66,7 +66,7 @@ pub record TokenView : Type 0 where
   pub stop : ℕ
   pub text : List ℕ
 
--- the token that so many bytes of a text are, where the text stands at a place
+-- the token that the first `size` bytes of a text are, where the text stands at `start`
 abbrev pub token_of : ℕ → List ℕ → Kind × ℕ → TokenView
 token_of start text (kind, size) =
     record { kind = kind; start = start; stop = start + size; text = take size text }
@@ -77,7 +77,8 @@ token_at format start text = token_of start text (front_of format text)
 
 -- ---- all tokens
 
--- the tokens of a text that stands at a place, of which the first bytes, so many, belong to the token before it
+-- the tokens of a text that stands at `start`, whose first `taken` bytes belong to the token before
+-- it
 abbrev pub tokens_from : Format → ℕ → ℕ → List ℕ → List TokenView
 tokens_from format start taken [] = []
 tokens_from format start (suc taken) (byte ∷ rest) = tokens_from format (start + 1) taken rest
@@ -110,8 +111,8 @@ abbrev pub AreSkipped : List ℕ → ℕ → ℕ → Type 0
 AreSkipped source from to =
     (place : ℕ) → from ≤ place → place < to → is_skipped (slice_index source place) ≡ true
 
--- A token begins at the least place, from that one on, whose byte isn't skipped, and is what the source begins with
--- there.
+-- A token begins at the first place from `from` on whose byte isn't skipped, and is what the source
+-- begins with there.
 pub record BeginsNext (format : Format) (source : List ℕ) (from : ℕ) (token : TokenView)
     : Type 0 where
   pub behind : from ≤ token.start

@@ -54,7 +54,8 @@ fn short_skipped_length(text: &[u8]) -> usize
     text.iter().take_while(|byte| is_skipped(**byte)).count()
 }
 
-// How many bytes are skipped in front of a token, sixteen by sixteen as long as so many are left.
+// How many bytes are skipped in front of a token, sixteen by sixteen while at least sixteen are
+// left.
 #[inline(never)]
 fn long_skipped_length(text: &[u8]) -> usize
     ensures value { result ≡ prefix_len is_skipped text.now }
@@ -101,7 +102,7 @@ fn short_word_length(text: &[u8]) -> usize
     text.iter().take_while(|byte| is_word_byte(**byte)).count()
 }
 
-// How many bytes of a word a text begins with, sixteen by sixteen as long as so many are left.
+// How many bytes of a word a text begins with, sixteen by sixteen while at least sixteen are left.
 #[inline(never)]
 fn long_word_length(text: &[u8]) -> usize
     ensures value { result ≡ word_length text.now }
@@ -118,8 +119,8 @@ fn long_word_length(text: &[u8]) -> usize
     place + short_word_length(&text[place..])
 }
 
-// How many bytes of a word a text begins with. The first four are looked at one by one: a word of up to three is soon
-// told so.
+// How many bytes of a word a text begins with. The first four are looked at one by one, so that a
+// word of up to three ends soon.
 #[inline(always)]
 pub(crate) fn word_length(text: &[u8]) -> usize
     ensures value { result ≡ word_length text.now }

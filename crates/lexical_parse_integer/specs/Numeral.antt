@@ -38,7 +38,7 @@ numeral_behind format text head =
 abbrev pub digit_count : Numeral → ℕ
 digit_count numeral = length numeral.digits
 
--- the value of a numeral's first digits, so many, with the sign
+-- the value of a numeral's first `count` digits, with the sign
 abbrev pub front_value : Bool → Numeral → ℕ → ℤ
 front_value is_negative numeral count =
     with_sign is_negative (positional_value numeral.radix (take count numeral.digits))

@@ -24,13 +24,13 @@ view_at format is_prefixed radix text start position digits = record {
   identity = 0;
 }
 
--- the values of the first fronts, so many, are numbers of the type
+-- the values of the first `count` fronts are numbers of the type
 abbrev pub FrontsFit : IntegerType → Bool → Numeral → ℕ → Type 0
 FrontsFit type is_negative numeral count =
     (index : ℕ) → index < count
     → is_number type (front_value is_negative numeral (index + 1)) ≡ true
 
--- a value is that of the first digits, so many, and each front so far is a number of the type
+-- a value is that of the first `read` digits, and each front so far is a number of the type
 pub record Reads (type : IntegerType) (is_negative : Bool) (numeral : Numeral) (read : ℕ)
     (value : ℤ) : Type 0 where
   pub count : read ≤ digit_count numeral
@@ -68,14 +68,16 @@ pub record IsAtNumeral (cursor : CursorView) : Type 0 where
   pub sound : Folded (IsSound cursor)
   pub none : cursor.digits ≡ 0
 
--- the first digit was looked for, and taken where it has to be: one turn a digit, and without a separator one at most
+-- a cursor looked for the first digit, and took digits where it had to: one turn a digit, and
+-- without a separator at most one
 pub record LooksAhead (old new : CursorView) : Type 0 where
   pub goes_on : MovesOn old new
   pub turns : new.turns ≡ old.turns + new.digits
   pub count : new.digits ≤ digit_count (numeral_of old)
   pub one : IsNone old.format.digit_separator → new.digits ≤ 1
 
--- there is no zero too many in front, and a value is that of what was read: without a separator that is nothing, or all
+-- there is no zero too many in front, and a value is that of the digits read so far: without a
+-- separator these are none, or all, which are one at most
 pub record ReadsFirst (type : IntegerType) (is_negative radix_chosen : Bool) (old new : CursorView)
     (value : ℤ) : Type 0 where
   pub reads : Reads type is_negative (numeral_of old) new.digits value
@@ -83,8 +85,8 @@ pub record ReadsFirst (type : IntegerType) (is_negative radix_chosen : Bool) (ol
   pub lone : IsNone old.format.digit_separator
       → (new.digits ≡ 0) ⊎ (digit_count (numeral_of old) ≤ 1)
 
--- words of so many digits are read while there is room for them: one turn a word, and then no word more has room, or
--- none is left
+-- words of `word` digits are read while there is room for them, one turn a word: then there is no
+-- room for another word, or none is left
 pub record ReadsWords (type : IntegerType) (is_negative : Bool) (word room : ℕ)
     (old new : CursorView) (value : ℤ) : Type 0 where
   pub reads : Reads type is_negative (numeral_of old) new.digits value
@@ -107,14 +109,15 @@ pub record ReadsNumeral (type : IntegerType) (is_negative radix_chosen : Bool)
   pub no_zeros : zero_fault old.format radix_chosen (numeral_of old) ≡ None
   pub all : ReadsAll type is_negative old new value
 
--- where no digit was read before, or the only one, a turn for each digit that is left stays within the bound for words
--- that are taken from so many digits
+-- where no digit was read before, or the numeral has at most one, a turn for each digit that is
+-- left stays within the bound for words that are taken from the first `room` digits
 pub record LeavesFewTurns (bits room : ℕ) (old new : CursorView) : Type 0 where
   pub few : old.turns ≡ old.digits → (old.digits ≡ 0) ⊎ (digit_count (numeral_of old) ≤ 1)
       → new.turns + (digit_count (numeral_of old) - new.digits)
       ≤ turns_bound (digits_per_word bits) room (digit_count (numeral_of old))
 
--- one turn a digit where no words may be taken, and few turns where they are asked for, with one for each digit left
+-- one turn a digit where no words may be taken; where they are asked for, few turns, with one more
+-- for each digit that is left
 pub record LeavesTurns (bits : ℕ) (type : IntegerType) (no_multi_digit : Bool)
     (old new : CursorView) : Type 0 where
   pub each : IsTrue no_multi_digit → new.turns + old.digits ≡ old.turns + new.digits

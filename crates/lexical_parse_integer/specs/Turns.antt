@@ -9,8 +9,8 @@ use Rattle.lexical_parse_integer.specs.Numeral.{numeral_behind, digit_count}
 unfoldable pub digits_per_word : ℕ → ℕ
 digits_per_word bits = if nat_le 64 bits then 8 else 4
 
--- the greatest number of turns for so many digits, where words have `word` digits and are taken from the first
--- `room` digits alone
+-- the greatest number of turns for `digits` digits, where words have `word` digits and are only
+-- taken from the first `room` digits
 abbrev pub turns_bound : ℕ → ℕ → ℕ → ℕ
 turns_bound word room digits =
     min digits room / word + min digits room % word + (digits - min digits room)

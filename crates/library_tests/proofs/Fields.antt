@@ -69,7 +69,7 @@ column format type room separator text =
 abbrev u64 : IntegerType
 u64 = integer_type 64 false
 
--- so many numbers, and the place where reading stopped
+-- `count` numbers were read, and reading stopped at `stop`
 abbrev read : ℕ → ℕ → Result Column ColumnError
 read count stop = Ok (record { count = count; stop = stop })
 

@@ -1,4 +1,5 @@
--- How many turns some texts take: by words at most so many, and digit by digit as many as they have digits.
+-- How many turns some texts take: an upper bound by words, and one turn for each digit where digits
+-- are taken one by one.
 use Rattle.std.proofs.Common.{◌≡◌, ◌≤◌, ◌∙◌, ℕ, List, Result, Ok, Err, OnOk, Some, codes, false, true, refl, lit≤}
 use Rattle.std.proofs.lemmas.Result.{MatchResult-at_ok}
 use Rattle.lexical_util.specs.Format.{Format, standard}
@@ -10,7 +11,7 @@ use Rattle.lexical_parse_integer.specs.Numeral.{digit_count, numeral_in}
 use Rattle.lexical_parse_integer.specs.Reading.{StandsAtStop}
 use Rattle.lexical_parse_integer.specs.Turns.{HasFewTurns, digits_per_word}
 
--- by the bound in contracts a parse by words takes at most so many turns
+-- by the bound in contracts a parse by words takes at most `most` turns
 abbrev pub Takes : Format → IntegerType → List ℕ → ℕ → Type 0
 Takes format type text most = (turns : ℕ) → HasFewTurns format type text turns → turns ≤ most
 

@@ -19,7 +19,7 @@ use Rattle.uses.specs.declared.ledger.LineError.{LineError}
 use Rattle.uses.specs.declared.ledger.LedgerError.TheVariants.{Line, OutOfRange}
 use Rattle.uses.proofs.EachLemmas.{each_fault, each_more}
 
--- the first amounts of a ledger, so many, are read, and this is their sum
+-- the first `count` lines of a ledger can be read, and their amounts add up to `sum`
 abbrev pub IsSum : List ℕ → ℕ → ℤ → Type 0
 IsSum text count sum =
     IsOkAnd (each (take count (map cents_in (lines text))))

@@ -41,6 +41,6 @@ settled_at (Err (NoDigit place)) = Some place
 settled_at (Err (OutOfRange e)) = place_of e
 settled_at (Err (Malformed e)) = None
 
--- a text tells what each text with the same first bytes does, so many, whatever follows them
+-- every text with the same first `count` bytes has the same answer, whatever follows them
 abbrev pub IsFinal : ℕ → List ℕ → Type 0
 IsFinal count text = (other : List ℕ) → SameFront count text other → part_in other ≡ part_in text

@@ -1,7 +1,7 @@
 //! Jobs that users of the library wait for, to be timed: `workloads NAME PASSES SEED`.
 //!
-//! Each job makes its input from the seed, reads it so many times, each time with other digits, and prints a digest of
-//! all that it was answered. Nothing here is for users.
+//! Each job makes its input from the seed, reads it `PASSES` times, each time with other digits,
+//! and prints a digest of all answers. Nothing here is for users.
 #![tactic(auto)]
 
 mod arguments;

@@ -36,8 +36,8 @@ impl Random {
         least.saturating_add(chosen as usize)
     }
 
-    /// How many digits a number has, as numbers of users have them: of a hundred 70 have one to four, 25 five to ten, and 5
-    /// eleven to so many.
+    /// How many digits a number has, as in users' data: of a hundred numbers 70 have one to four
+    /// digits, 25 have five to ten, and 5 have eleven to `most`.
     pub fn realistic(&mut self, most: usize) -> usize {
         match self.below(100) {
             0..=69 => self.between(1, 4),
@@ -46,7 +46,7 @@ impl Random {
         }
     }
 
-    /// Whether something is so that is so for so many of a hundred.
+    /// Whether something is so that is true of `many` in a hundred.
     pub fn percent(&mut self, many: u64) -> bool {
         self.below(100) < many
     }

@@ -162,7 +162,7 @@ pub struct Entries {
 }
 
 impl Entries {
-    /// Room for so many entries.
+    /// Room for `rows` entries.
     pub fn new(alloc: Global, rows: usize) -> Result<Entries, AllocError> {
         Ok(Entries {
             numbers: vec![in alloc; 0; rows]?,

@@ -3,7 +3,8 @@
 use crate::random::Random;
 use std::alloc::{AllocError, Global};
 
-/// So many beginnings there are among the changes: no reading but one of so many has the changes of another.
+/// How many places among the changes a reading may begin at. No two of that many readings in a row
+/// begin at the same place.
 const BEGINNINGS: usize = 4096;
 
 /// A text, and for each of its bytes 1 where that may change, and 0 elsewhere.
@@ -51,7 +52,7 @@ impl Sample {
         Ok(())
     }
 
-    /// Adds a number of so many decimal digits. The first of several is no zero, and stays.
+    /// Adds a number of `digits` decimal digits. The first of several isn't 0, and never changes.
     pub fn push_number(&mut self, random: &mut Random, digits: usize) -> Result<(), AllocError> {
         for i in 0..digits {
             let is_fixed = i == 0 && digits > 1;
@@ -65,7 +66,7 @@ impl Sample {
         Ok(())
     }
 
-    /// Adds a number of so many digits of radix 16, of which those above 9 are capital letters.
+    /// Adds a number of `digits` digits of radix 16. Those above 9 are capital letters.
     pub fn push_hexadecimal(
         &mut self,
         random: &mut Random,
@@ -82,7 +83,7 @@ impl Sample {
         Ok(())
     }
 
-    /// Adds a number of so many digits, with a separator before each three.
+    /// Adds a number of `digits` digits, with a separator before each three.
     pub fn push_grouped(
         &mut self,
         random: &mut Random,
@@ -99,7 +100,7 @@ impl Sample {
         Ok(())
     }
 
-    /// Adds a word of so many small letters.
+    /// Adds a word of `letters` small letters.
     pub fn push_word(&mut self, random: &mut Random, letters: usize) -> Result<(), AllocError> {
         for _ in 0..letters {
             let letter = b"etaoinshrdlucmfw".get(random.between(0, 15)).copied();

@@ -50,7 +50,7 @@ end_count v s open_now none =
     let count = length-map (places v.format v.is_prefixed v.radix v.bytes v.start) (λ k. unwrap_or (digit_at v.radix v.bytes k) 0) in
     omega (arith, o.digits, o.before_end)
 
--- where the next bytes, so many, aren't all digits, fewer digits are left
+-- where the next `w` bytes aren't all digits, fewer than `w` digits are left
 pub few_left : (v : CursorView) (w : ℕ) → IsSound v → v.closed ≡ false → v.format.digit_separator ≡ None → (AreDigitsAhead v w → ⊥) → digit_count (numeral_of v) < v.digits + w
 few_left v w s open_now none no_word =
     elim (cases_lt (digit_count (numeral_of v)) (v.digits + w)) [

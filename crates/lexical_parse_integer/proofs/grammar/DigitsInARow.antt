@@ -20,15 +20,15 @@ has_digit r text k = is_some (digit_at r text k)
 abbrev pub EndsRow : ℕ → List ℕ → ℕ → ℕ → Type 0
 EndsRow r text start end = IsStop (has_digit r text) start (length text) end
 
--- the values of the digits at so many places from start on
+-- the values of the digits at the first `count` places from `start` on
 abbrev pub row : ℕ → List ℕ → ℕ → ℕ → List ℕ
 row r text start count = map (λ place. unwrap_or (digit_at r text place) 0) (range_with_len start count)
 
--- the place behind the suffix, where it follows so many digits, and else behind these
+-- the place behind the suffix, where one follows `count` digits, and else behind these digits
 abbrev pub row_stop : Format → List ℕ → ℕ → ℕ → ℕ
 row_stop f text start count = cond (nat_lt 0 count && suffix_at f text (start + count)) (start + count + 1) (start + count)
 
--- the numeral of so many digits in a row
+-- the numeral of `count` digits in a row
 abbrev pub row_numeral : Format → List ℕ → ℕ → ℕ → ℕ → Numeral
 row_numeral f text start r count = record {
   radix = r;

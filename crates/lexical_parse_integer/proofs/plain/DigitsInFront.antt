@@ -36,7 +36,7 @@ use Rattle.lexical_parse_integer.proofs.theorems.SettledAnswers.{partial_by, par
 use Rattle.lexical_parse_integer.proofs.grammar.RangeOfFronts.{shorter_fronts_fit}
 use Rattle.lexical_digits.proofs.WordsInFront.{joined, reaches, rest_is}
 
--- so many digits behind the sign, and then none
+-- `n` digits stand behind the sign, and none behind these
 pub front_read_under : (f : Format) (t : IntegerType) (text : List ℕ) (s : Bool × ℕ) (n : ℕ) → IsPlain f → 1 ≤ f.mantissa_radix → sign f t text ≡ Ok s → 0 < n → s.1 + n ≤ length text →
     HoldsBetween (has_digit f.mantissa_radix text) s.1 (s.1 + n) → (s.1 + n < length text → has_digit f.mantissa_radix text (s.1 + n) ≡ false) →
     zero_fault f false (row_numeral f text s.1 f.mantissa_radix n) ≡ None →

@@ -14,8 +14,9 @@ use Rattle.lexical_parse_integer.specs.Grouped.{AreGrouped, AreWorth, digits_amo
 use Rattle.lexical_digits.specs.Value.{positional_value, with_sign}
 use Rattle.lexical_parse_integer.proofs.grammar.Stretches.{true_or_false}
 
--- So many bytes are digits and separators, of which the first is a digit; where no two separators may stand side by
--- side a digit follows each before the last; and whether a separator may stand next.
+-- The first `count` bytes are digits and separators, of which the first is a digit. Where no two
+-- separators may stand side by side, a digit follows each separator but one that is the last byte.
+-- If `may_part`, a separator may stand next.
 pub record IsParted (r separator : ℕ) (is_consecutive : Bool) (bytes : List ℕ) (count : ℕ) (may_part : Bool) : Type 0 where
   pub separators : (k : ℕ) → k < count → is_digit_in r bytes k ≡ false → get_or bytes k 0 ≡ separator
   pub first : 0 < count → is_digit_in r bytes 0 ≡ true

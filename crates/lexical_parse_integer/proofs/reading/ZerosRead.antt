@@ -19,7 +19,7 @@ still_zero : (b : Bool) (r : ℕ) → pos 0 ≡ mul_add b (pos 0) (pos r) (pos 0
 still_zero true r = omega (arith, ints)
 still_zero false r = omega (arith, ints)
 
--- so many zeros from the numeral's start on are read, and their value is 0
+-- the first `k` zeros from the numeral's start on are read, and their value is 0
 pub zeros_read : (f : Format) (pre : Bool) (text : List ℕ) (r start : ℕ) (t : IntegerType) (b : Bool) (k : ℕ) → IsWidth t.bits → IsSound (view_at f pre r text start start 0) → start + k ≤ length text → ((j : ℕ) → start ≤ j → j < start + k → get_or text j 0 ≡ 48) →
     IsSound (view_at f pre r text start (start + k) k) × Reads t b (numeral_in f pre r text start) k (pos 0)
 zeros_read f pre text r start t b zero width sound within zeros =

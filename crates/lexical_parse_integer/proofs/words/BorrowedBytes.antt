@@ -35,6 +35,6 @@ pub none_told : (t : Bool) (v : ℕ) → None ≡ cond t (Some v) None → t ≡
 none_told true v e = cc
 none_told false v e = refl
 
--- the value of a word fits so many digits
+-- the value of a word of `w` digits is below 10 ^ `w`
 pub lanes_small : (r n w : ℕ) (bytes : List ℕ) → r ≤ 10 → length bytes ≡ w → are_digit_lanes r bytes ≡ true → n ≡ word_value r bytes → n < 10 ^ w
 lanes_small r n w bytes ten size t e = word_small r n w bytes ten size (digits_from_lanes r bytes ten t) e

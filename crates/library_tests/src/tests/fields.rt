@@ -13,7 +13,7 @@ use lexical_parse_integer::{Error, NumberFormat, NumberFormatBuilder, options};
 // What reading a column answers.
 type Answer = Result<Column, ColumnError>;
 
-// So many numbers, and the place where reading stopped.
+// The answer that `count` numbers were read, and that reading stopped at `stop`.
 fn column(count: usize, stop: usize) -> Answer {
     Ok(Column { count, stop })
 }

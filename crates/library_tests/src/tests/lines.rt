@@ -21,10 +21,10 @@ const BLOCK: &[u8] = b"c u8 256\nc u8 \n\n\n\n\n\n\n\n\n\n\n\n\n";
 const ANSWERS: &[u8] =
     b"err Overflow 2\nerr Empty 0\nbad line\nbad line\nbad line\nbad line\nbad line\nbad line\nbad line\nbad line\nbad line\nbad line\nbad line\nbad line\n";
 
-// So many blocks have answers of more than two gathering arrays.
+// How many blocks a long input has: their answers take more than two gathering arrays.
 const TIMES: usize = 1000;
 
-// Some bytes so many times.
+// `times` copies of some bytes.
 fn repeated(alloc: Global, piece: &[u8], times: usize) -> Result<Vec<u8>, AllocError> {
     let mut bytes = Vec::new(alloc);
     for _ in 0..times {
@@ -33,8 +33,8 @@ fn repeated(alloc: Global, piece: &[u8], times: usize) -> Result<Vec<u8>, AllocE
     Ok(bytes)
 }
 
-// A run over these devices has this answer, and so many writes were taken, of the block's bytes alone. So many of these
-// bytes stood before the flush, which comes last; 0 is no flush.
+// A run over these devices has this answer. It writes the block's bytes alone, by `writes` writes.
+// `flushed` of these bytes stand before the flush, which comes last; 0 is no flush.
 fn ends(
     rt: &impl Abort,
     alloc: Global,

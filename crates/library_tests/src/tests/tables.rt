@@ -34,7 +34,7 @@ fn pairs(has_returns: bool) -> Dialect<'static> {
     }
 }
 
-// So many rows, and the place where reading stopped.
+// The answer that `rows` rows were read, and that reading stopped at `stop`.
 fn table(rows: usize, stop: usize) -> Answer {
     Ok(Table { rows, stop })
 }

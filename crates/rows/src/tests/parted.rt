@@ -14,7 +14,7 @@ const LONGEST: usize = 24;
 // More digits between two separators than a text has: no separators.
 const NONE: usize = 100;
 
-// Ones, with a separator before each so many bytes, counted from a length.
+// Ones, with a separator before each `every` bytes, counted back from `length`.
 fn ones(every: usize, length: usize) -> [u8; LONGEST] {
     let mut text = [b'1'; LONGEST];
     for (place, byte) in text.iter_mut().enumerate() {
@@ -83,7 +83,8 @@ fn with_each_byte_changed(rt: &impl Abort, kind: Kind, format: &NumberFormat, te
     }
 }
 
-// Texts of each length behind a prefix or none, with a separator before each so many digits, counted from the end.
+// Texts of each length, with a separator before each `every` digits, counted from the end. `head`
+// stands in front of them, a prefix or nothing.
 fn of_each_length(rt: &impl Abort, kind: Kind, format: &NumberFormat, head: &[u8], every: usize) {
     for length in 1..=LONGEST {
         if let Some(text) = headed(ones(every, length), head).get(..length) {

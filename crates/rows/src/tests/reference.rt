@@ -243,7 +243,7 @@ impl Numeral {
     }
 }
 
-// The radix times itself, so many times.
+// The radix to the power of `times`. `None` is a number beyond 128 bits.
 fn power(radix: u32, times: usize) -> Option<u128> {
     let mut product = 1_u128;
     for _ in 0..times {

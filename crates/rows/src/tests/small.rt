@@ -33,7 +33,7 @@ fn text_of(number: usize, bytes: &Bytes) -> [u8; 5] {
     text
 }
 
-// Every text of so many bytes, by the numbers of that length to the base 9.
+// Every text of `length` bytes. Each number of `length` digits to the base 9 stands for one.
 fn of_length(rt: &impl Abort, kind: Kind, format: &NumberFormat, bytes: &Bytes, length: usize) {
     for number in 0..POWERS[length.min(5)] {
         if let Some(text) = text_of(number, bytes).get(..length) {

@@ -2,7 +2,7 @@ use Rattle.std.proofs.Common.{length, ◌-◌, ◌≤◌}
 use Rattle.lexical_fields.specs.ReadSoFar.{IsReadSoFar}
 use Rattle.lexical_fields.proofs.columns.read_column.Given as goal
 
--- so many numbers were read
+-- `count` numbers were read
 abbrev pub invariant-loop-count : goal.invariant-loop-count
 invariant-loop-count g l =
     record {

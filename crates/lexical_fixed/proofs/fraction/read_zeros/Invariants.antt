@@ -2,7 +2,7 @@ use Rattle.std.proofs.Common.{◌-◌, ◌≤◌}
 use Rattle.lexical_fixed.proofs.Digits.{ZerosRead}
 use Rattle.lexical_fixed.proofs.fraction.read_zeros.Given as goal
 
--- so many zeros are done
+-- the first `done` zeros are read
 abbrev pub invariant-loop-done : goal.invariant-loop-done
 invariant-loop-done g l = record {
   few : l.done ≤ l.fn.zeros;

@@ -23,7 +23,8 @@ use lexical_util::format::{self, NumberFormat};
 use lexical_util::num::Integer;
 use lexical_util::result::Result;
 
-// How many digits a text begins with, or more than so many: counted by words, whose numbers nobody asks for.
+// How many digits a text begins with if there are at most `most`, and else a number above `most`.
+// Words of digits are counted, and their numbers ignored.
 #[inline(always)]
 fn digits_in_front(text: &[u8], most: usize) -> usize
     requires some { 1 ≤ length text.now }
@@ -46,8 +47,8 @@ fn digits_in_front(text: &[u8], most: usize) -> usize
     count
 }
 
-// The place at which reading stops, where no digit stands behind the sign, or a byte behind digits for which their type
-// has room, whatever they are.
+// The place at which reading stops, if no digit stands behind the sign, or if another byte follows
+// digits that are few enough for the type, whatever they are.
 #[inline(always)]
 pub(in crate::algorithm) fn place_after_digits<T: Integer>(
     bytes: &[u8],
@@ -85,8 +86,9 @@ pub(in crate::algorithm) fn place_after_digits<T: Integer>(
     Some(start + count)
 }
 
-// How many digits of more than so many are read at once. Signed types have room for one decimal digit more than for digits of
-// any kind: where one stands there, and it makes whole words, it is read too.
+// How many digits are read at once where there are more than `most`. `most` is a bound for any
+// radix up to 16, and from 32 bits on a signed type has room for one more decimal digit. If one
+// stands there, it is read too, since this makes whole words.
 #[inline(always)]
 fn digits_at_once<T: Integer>(digits: &[u8], most: usize) -> usize
     requires some { 1 ≤ most }
@@ -101,9 +103,10 @@ fn digits_at_once<T: Integer>(digits: &[u8], most: usize) -> usize
     }
 }
 
-// The answer for a text that has more digits than its type has surely room for: the number that they stand for, or the
-// fault at the digit with which the number leaves the type, or at the first byte that is no digit. The caller asks for zeros
-// in front, since a look at the first digit alone would have the compiler load the others one by one.
+// The answer for a text with more digits than surely fit its type: the number that they stand for,
+// or the fault at the digit with which the number leaves the type, or at the first byte that is no
+// digit. The caller tests for zeros in front, since a look at the first digit alone would have the
+// compiler load the others one by one.
 #[inline(always)]
 pub(in crate::algorithm) fn answer_after_digits<T: Integer>(
     bytes: &[u8],

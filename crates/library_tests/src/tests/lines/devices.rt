@@ -4,8 +4,8 @@ use answer_lines::Buffer;
 use std::alloc::AllocError;
 use std::io::{Error, ErrorKind, Read, Result, Write};
 
-/// Gives at most so many bytes a call, and is interrupted so many times before each. It refuses one read, once it has
-/// given `good` bytes: a second try would be given the others.
+/// Gives at most `most` bytes a call, each time after `interruptions` interrupted calls. It refuses
+/// one read, once it has given `good` bytes: a second try would be given the others.
 #[derive(Drop)]
 pub struct Reader<'a> {
     bytes: &'a [u8],
@@ -50,9 +50,9 @@ impl Read for Reader<'_> {
     }
 }
 
-/// Compares what it is given with a block of bytes that comes again and again, keeps none of it, and counts. It takes
-/// at most so many bytes a call, and refuses one write, the one after `good` of them, or the first flush. A second try
-/// would be taken.
+/// Compares what it is given with a block of bytes that comes again and again, keeps none of it,
+/// and counts. It takes at most `most` bytes a call, and refuses one write, the one after `good` of
+/// them, or the first flush. A second try would be taken.
 #[derive(Drop)]
 pub struct Writer<'a> {
     block: &'a [u8],

@@ -50,7 +50,7 @@ fn refuses_each_write(
     }
 }
 
-// A run takes so many writes, and reports it if one of them or the flush is refused.
+// A run takes `writes` writes, and reports it if one of them or the flush is refused.
 fn tells_what_is_refused(
     rt: &impl Abort,
     alloc: Global,
@@ -82,7 +82,7 @@ fn tells_what_is_refused(
     }
 }
 
-// A run that reads and writes a byte a call writes the block so many times.
+// A run that reads and writes one byte a call writes the block `times` times.
 fn goes_byte_by_byte(rt: &impl Abort, alloc: Global, bytes: &[u8], block: &[u8], times: usize) {
     let all = block.len().saturating_mul(times);
     for interruptions in [0, 1, 5] {
