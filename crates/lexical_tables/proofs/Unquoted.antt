@@ -1,4 +1,4 @@
--- A cell whose quotes are in place, since it has none, or quotes have no meaning.
+-- Whether the quotes of a cell are in place, and whether doubled ones stand in a text.
 use Rattle.std.proofs.Common.{◌≡◌, ◌≢◌, ◌∙◌, ℕ, ◌+◌, ◌-◌, ◌<◌, ◌≤◌, ◌==◌, Bool, true, false, cond, eq-eqb, List, [], ◌∷◌, length, take, drop, get_or, get_or-drop, length-drop, length-take-le, Some, None, refl, ap, sym, arith, inl, inr}
 use Rattle.std.proofs.lemmas.Bool.{and_right, cases_lt, eqb-true, le-ltb, lt-ltb, ne_eqb}
 use Rattle.std.proofs.lemmas.List.{get_or-take}
