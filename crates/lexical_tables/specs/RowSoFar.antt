@@ -73,12 +73,12 @@ pub record IsOnRow (dialect : Dialect) (separator : ℕ) (text left : List ℕ) 
   pub behind_separator : 0 < length text - length left
       → slice_index text (length text - length left - 1) ≡ separator
 
--- Wherever a text stands, cells of its first row go into targets. `first` columns were read before,
--- and `from` was left of the text. Now `column` columns are read, and `left` is left.
-abbrev pub GoesOn : Dialect → ℕ → List ℕ → List ℕ → List ℕ → List (Option TargetView)
+-- Cells of the first row of a text that stands at a place go into targets. `first` columns were read
+-- before, and `from` was left of the text. Now `column` columns are read, and `left` is left.
+abbrev pub GoesOn : Dialect → ℕ → ℕ → List ℕ → List ℕ → List ℕ → List (Option TargetView)
     → List (Option TargetView) → ℕ → ℕ → Type 0
-GoesOn dialect index text from left before after first column =
-    (start : ℕ) (kinds : List (Option Kind)) (old : List (Option TargetView))
+GoesOn dialect index start text from left before after first column =
+    (kinds : List (Option Kind)) (old : List (Option TargetView))
     → let row = first_row dialect start text in
     IsRowPut kinds dialect index row old before first
     (cells_behind dialect row first (length text - length from))
@@ -86,10 +86,10 @@ GoesOn dialect index text from left before after first column =
     (cells_behind dialect row column (length text - length left))
 
 -- the same up to the row's end, where nothing is wrong with the row
-abbrev pub GoesToEnd : Dialect → ℕ → List ℕ → List ℕ → List (Option TargetView)
+abbrev pub GoesToEnd : Dialect → ℕ → ℕ → List ℕ → List ℕ → List (Option TargetView)
     → List (Option TargetView) → ℕ → Type 0
-GoesToEnd dialect index text from before after first =
-    (start : ℕ) (kinds : List (Option Kind)) (old : List (Option TargetView))
+GoesToEnd dialect index start text from before after first =
+    (kinds : List (Option Kind)) (old : List (Option TargetView))
     → let row = first_row dialect start text in
     IsRowPut kinds dialect index row old before first
     (cells_behind dialect row first (length text - length from))

@@ -53,6 +53,37 @@ pub(crate) fn read_text<C: TableColumn>(
     true
 }
 
+// Reads a cell as `read_text` does, the first `size` bytes of a text. Out of line, to keep registers
+// for the loop.
+#[inline(never)]
+pub(crate) fn read_text_cell<C: TableColumn>(
+    target: &mut C,
+    row: usize,
+    start: usize,
+    ahead: &[u8],
+    size: usize,
+    dialect: &Dialect<'_>,
+) -> bool
+    requires usable { IsUsable (row + 1) (C.target target.old) }
+    requires text { keeps_text (C.target target.old) ≡ true }
+    requires within { size ≤ length ahead.now }
+    requires fits { start + size < 2 ^ 64 }
+    ensures fault { IsTrue result → fault_in (answer_as dialect.now
+        (option_map kind_of (C.target target.old))
+        (record { start = start; text = take size ahead.now })) ≡ None }
+    ensures target { IsTrue result → C.target target.new ≡ option_map (put_read row
+        (answer_as dialect.now (option_map kind_of (C.target target.old))
+        (record { start = start; text = take size ahead.now }))) (C.target target.old) }
+    ensures kept { result ≡ false → C.target target.new ≡ C.target target.old }
+{
+    let cell = Cell {
+        start,
+        text: &ahead[..size],
+        ahead,
+    };
+    read_text(target, row, cell, dialect)
+}
+
 // Whether a text may be the mark of a column: it has that many bytes. None of them is read.
 #[inline(always)]
 fn may_be_mark<C: TableColumn>(target: &C, text: &[u8], mark: &[u8]) -> bool
@@ -63,37 +94,6 @@ fn may_be_mark<C: TableColumn>(target: &C, text: &[u8], mark: &[u8]) -> bool
         return false;
     }
     text.len() == mark.len()
-}
-
-// Reads a cell in its column of texts where quotes have no meaning, if it can't be the mark, and returns whether it did.
-#[inline(always)]
-#[tactic(auto, using(crate::proofs::CodeSteps::text_code))]
-fn read_plain_text<C: TableColumn>(
-    target: &mut C,
-    row: usize,
-    cell: Cell<'_>,
-    dialect: &Dialect<'_>,
-) -> bool
-    requires usable { IsUsable (row + 1) (C.target target.old) }
-    requires text { keeps_text (C.target target.old) ≡ true }
-    requires quotes { dialect.now.has_quotes ≡ false }
-    ensures fault { IsTrue result → fault_in (answer_as dialect.now
-        (option_map kind_of (C.target target.old)) (view_of_cell cell.entry)) ≡ None }
-    ensures target { IsTrue result → C.target target.new ≡ option_map (put_read row
-        (answer_as dialect.now (option_map kind_of (C.target target.old))
-        (view_of_cell cell.entry))) (C.target target.old) }
-    ensures kept { result ≡ false → C.target target.new ≡ C.target target.old }
-{
-    if may_be_mark(target, cell.text, dialect.missing) {
-        return false;
-    }
-    let text = CellText {
-        start: cell.start,
-        size: cell.text.len(),
-        has_doubled_quotes: false,
-    };
-    target.put_text(TEXTS, row, text);
-    true
 }
 
 // The number of what a cell holds goes to the row's place, where it is read at once: whether it did.
@@ -167,9 +167,6 @@ pub(crate) fn read_plain<C: TableColumn>(
         (view_of_cell cell.entry))) (C.target target.old) }
     ensures kept { result ≡ false → C.target target.new ≡ C.target target.old }
 {
-    if code == TEXTS {
-        return read_plain_text(target, row, cell, dialect);
-    }
     if has_numbers(code) && !dialect.allows_blanks {
         return read_plain_number(target, row, cell, dialect);
     }

@@ -45,6 +45,7 @@ pub(crate) fn marked_separator(text: &[u8], dialect: &Dialect<'_>) -> Option<u8>
 // stays in registers.
 #[inline(always)]
 pub(crate) fn read_cells_at_once<'a, C: TableColumn, const HAS_QUOTES: bool, const HAS_CALLS: bool>(
+    start: usize,
     text: &[u8],
     from: Left<'a>,
     first: usize,
@@ -64,15 +65,16 @@ pub(crate) fn read_cells_at_once<'a, C: TableColumn, const HAS_QUOTES: bool, con
     requires marked { IsMarked dialect.now separator }
     requires codes { AreCodes dialect.now codes.now (map C.target targets.old) }
     requires usable { AreUsable (index + 1) (map C.target targets.old) }
+    requires fits { start + length text.now < 2 ^ 64 }
     ensures goes_on { result.is_done ≡ false
-        → GoesOn dialect.now index text.now from.entry.text.now result.left.text.now
+        → GoesOn dialect.now index start text.now from.entry.text.now result.left.text.now
         (map C.target targets.old) (map C.target targets.new) first result.column }
     ensures here { result.is_done ≡ false
         → IsOnRow dialect.now separator text.now result.left.text.now }
     ensures codes { result.is_done ≡ false
         → AreCodes dialect.now codes.now (map C.target targets.new) }
     ensures usable { result.is_done ≡ false → AreUsable (index + 1) (map C.target targets.new) }
-    ensures done { result.is_done ≡ true → GoesToEnd dialect.now index text.now from.entry.text.now
+    ensures done { result.is_done ≡ true → GoesToEnd dialect.now index start text.now from.entry.text.now
         (map C.target targets.old) (map C.target targets.new) first }
     ensures behind { result.is_done ≡ true → result.left.text.now
         ≡ behind_piece dialect.now.layout dialect.now.has_quotes text.now }
@@ -99,8 +101,9 @@ pub(crate) fn read_cells_at_once<'a, C: TableColumn, const HAS_QUOTES: bool, con
         if ends_wrong(left.text, part, count, columns, dialect) {
             return not_done(left, column);
         }
+        let place = start + (text.len() - left.text.len());
         if !read_coded_cell::<C, HAS_QUOTES, HAS_CALLS>(
-            targets, codes, column, index, left.text, part.size, dialect, options,
+            targets, codes, column, index, place, left.text, part.size, dialect, options,
         ) {
             return not_done(left, column);
         }
@@ -166,8 +169,9 @@ pub(crate) fn read_marked_row<
     ensures marks { AreEnds dialect.now.has_quotes separator result.left.text.now
         result.left.marks }
 {
+    let start = end - text.text.len();
     let read = read_cells_at_once::<C, HAS_QUOTES, HAS_CALLS>(
-        text.text, text, 0, index, columns, separator, codes, dialect, options, targets,
+        start, text.text, text, 0, index, columns, separator, codes, dialect, options, targets,
     );
     if read.is_done {
         return Behind {
@@ -176,7 +180,7 @@ pub(crate) fn read_marked_row<
         };
     }
     let left = read_row_on::<C, HAS_QUOTES, HAS_CALLS>(
-        end - text.text.len(),
+        start,
         text.text,
         read.left,
         read.column,
