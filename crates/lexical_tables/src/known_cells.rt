@@ -96,6 +96,37 @@ fn may_be_mark<C: TableColumn>(target: &C, text: &[u8], mark: &[u8]) -> bool
     text.len() == mark.len()
 }
 
+// Reads a cell in its column of texts where quotes have no meaning, if it can't be the mark, and returns whether it did.
+#[inline(always)]
+#[tactic(auto, using(crate::proofs::CodeSteps::text_code))]
+fn read_plain_text<C: TableColumn>(
+    target: &mut C,
+    row: usize,
+    cell: Cell<'_>,
+    dialect: &Dialect<'_>,
+) -> bool
+    requires usable { IsUsable (row + 1) (C.target target.old) }
+    requires text { keeps_text (C.target target.old) ≡ true }
+    requires quotes { dialect.now.has_quotes ≡ false }
+    ensures fault { IsTrue result → fault_in (answer_as dialect.now
+        (option_map kind_of (C.target target.old)) (view_of_cell cell.entry)) ≡ None }
+    ensures target { IsTrue result → C.target target.new ≡ option_map (put_read row
+        (answer_as dialect.now (option_map kind_of (C.target target.old))
+        (view_of_cell cell.entry))) (C.target target.old) }
+    ensures kept { result ≡ false → C.target target.new ≡ C.target target.old }
+{
+    if may_be_mark(target, cell.text, dialect.missing) {
+        return false;
+    }
+    let text = CellText {
+        start: cell.start,
+        size: cell.text.len(),
+        has_doubled_quotes: false,
+    };
+    target.put_text(TEXTS, row, text);
+    true
+}
+
 // The number of what a cell holds goes to the row's place, where it is read at once: whether it did.
 #[inline(always)]
 pub(crate) fn had_at_once<C: TableColumn>(target: &mut C, row: usize, held: Cell<'_>) -> bool
@@ -167,6 +198,9 @@ pub(crate) fn read_plain<C: TableColumn>(
         (view_of_cell cell.entry))) (C.target target.old) }
     ensures kept { result ≡ false → C.target target.new ≡ C.target target.old }
 {
+    if code == TEXTS {
+        return read_plain_text(target, row, cell, dialect);
+    }
     if has_numbers(code) && !dialect.allows_blanks {
         return read_plain_number(target, row, cell, dialect);
     }
