@@ -73,24 +73,25 @@ pub record IsOnRow (dialect : Dialect) (separator : ℕ) (text left : List ℕ) 
   pub behind_separator : 0 < length text - length left
       → slice_index text (length text - length left - 1) ≡ separator
 
--- Wherever a text stands, cells of its first row go into targets. `first` columns were read before,
--- and `from` was left of the text. Now `column` columns are read, and `left` is left.
-abbrev pub GoesOn : Dialect → ℕ → List ℕ → List ℕ → List ℕ → List (Option TargetView)
+-- Cells of the first row of a text go into targets, where `end` is the place behind the text. `first`
+-- columns were read before, and `from` was left of the text. Now `column` columns are read, and
+-- `left` is left.
+abbrev pub GoesOn : Dialect → ℕ → ℕ → List ℕ → List ℕ → List ℕ → List (Option TargetView)
     → List (Option TargetView) → ℕ → ℕ → Type 0
-GoesOn dialect index text from left before after first column =
-    (start : ℕ) (kinds : List (Option Kind)) (old : List (Option TargetView))
-    → let row = first_row dialect start text in
+GoesOn dialect index end text from left before after first column =
+    (start : ℕ) → start + length text ≡ end → (kinds : List (Option Kind))
+    (old : List (Option TargetView)) → let row = first_row dialect start text in
     IsRowPut kinds dialect index row old before first
     (cells_behind dialect row first (length text - length from))
     → IsRowPut kinds dialect index row old after column
     (cells_behind dialect row column (length text - length left))
 
 -- the same up to the row's end, where nothing is wrong with the row
-abbrev pub GoesToEnd : Dialect → ℕ → List ℕ → List ℕ → List (Option TargetView)
+abbrev pub GoesToEnd : Dialect → ℕ → ℕ → List ℕ → List ℕ → List (Option TargetView)
     → List (Option TargetView) → ℕ → Type 0
-GoesToEnd dialect index text from before after first =
-    (start : ℕ) (kinds : List (Option Kind)) (old : List (Option TargetView))
-    → let row = first_row dialect start text in
+GoesToEnd dialect index end text from before after first =
+    (start : ℕ) → start + length text ≡ end → (kinds : List (Option Kind))
+    (old : List (Option TargetView)) → let row = first_row dialect start text in
     IsRowPut kinds dialect index row old before first
     (cells_behind dialect row first (length text - length from))
     → IsRowDone kinds dialect index row old after None

@@ -21,6 +21,7 @@ pub(crate) fn read_coded_cell<C: TableColumn, const HAS_QUOTES: bool, const HAS_
     codes: &[u8; CODED],
     column: usize,
     row: usize,
+    start: usize,
     ahead: &[u8],
     size: usize,
     dialect: &Dialect<'_>,
@@ -30,11 +31,11 @@ pub(crate) fn read_coded_cell<C: TableColumn, const HAS_QUOTES: bool, const HAS_
     requires codes { AreCodes dialect.now codes.now (map C.target targets.old) }
     requires usable { AreUsable (row + 1) (map C.target targets.old) }
     requires room { size + 17 ≤ length ahead.now }
-    ensures fault { IsTrue result → (start : ℕ) → fault_in (answer_at dialect.now
+    requires fits { start + size < 2 ^ 64 }
+    ensures fault { IsTrue result → fault_in (answer_at dialect.now
         (kinds_of (map C.target targets.old)) column
         (record { start = start; text = take size ahead.now })) ≡ None }
-    ensures targets { IsTrue result → (start : ℕ) → map C.target targets.new ≡ put_read_at row
-        column (answer_at dialect.now (kinds_of (map C.target targets.old)) column
+    ensures targets { IsTrue result → map C.target targets.new ≡ put_read_at row column (answer_at dialect.now (kinds_of (map C.target targets.old)) column
         (record { start = start; text = take size ahead.now })) (map C.target targets.old) }
     ensures kept { result ≡ false → map C.target targets.new ≡ map C.target targets.old }
 {
@@ -48,6 +49,7 @@ pub(crate) fn read_coded_cell<C: TableColumn, const HAS_QUOTES: bool, const HAS_
         &mut targets[column],
         codes[column],
         row,
+        start,
         ahead,
         size,
         dialect,

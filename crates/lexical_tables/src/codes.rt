@@ -189,7 +189,7 @@ pub(crate) fn put_codes<C: TableColumn>(
     for column in 0..count {
         let code = code_in(&targets[column], dialect, is_mark_number);
         codes[column] = code;
-        if code == AMOUNTS || code == PARSED || code == BARE {
+        if code == TEXTS || code == AMOUNTS || code == PARSED || code == BARE {
             has_calls = true;
         }
     }

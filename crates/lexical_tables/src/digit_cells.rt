@@ -8,9 +8,9 @@ ghost use Rattle.lexical_tables.specs.ByColumn.{IsUsable, fault_in, kind_of, put
 ghost use Rattle.lexical_tables.specs.Cells.{answer_as, quote_fault};
 ghost use Rattle.lexical_tables.specs.Codes.{AreQuotesRound, IsCodeIn, IsDecimal, IsNumberPut, IsNumeralUnder, IsReadAs, has_zero_rule};
 
-use crate::codes::{AMOUNTS, BARE, NOT_READ, PARSED, U8, WITH_ZERO_RULE};
+use crate::codes::{AMOUNTS, BARE, NOT_READ, PARSED, TEXTS, U8, WITH_ZERO_RULE};
 use crate::dialect::Dialect;
-use crate::known_cells::{read_bare_cell, read_parsed_cell};
+use crate::known_cells::{read_bare_cell, read_parsed_cell, read_text_cell};
 use crate::quotes::shows_no_quote;
 use crate::targets::TableColumn;
 use lexical_fields::{long_number_of_front, number_of_front};
@@ -130,12 +130,13 @@ fn read_amount<C: TableColumn, const HAS_QUOTES: bool>(
 
 // Reads a cell at once, the first `size` bytes of a text, where the column isn't read, or the cell
 // is digits alone, behind a minus or within quotes, and returns whether it did. With `HAS_CALLS` it
-// also reads amounts and numbers of other formats, each by a call.
+// also reads texts, amounts and numbers of other formats, each by a call.
 #[inline(always)]
 pub(crate) fn read_coded<C: TableColumn, const HAS_QUOTES: bool, const HAS_CALLS: bool>(
     target: &mut C,
     code: u8,
     row: usize,
+    start: usize,
     ahead: &[u8],
     size: usize,
     dialect: &Dialect<'_>,
@@ -145,15 +146,19 @@ pub(crate) fn read_coded<C: TableColumn, const HAS_QUOTES: bool, const HAS_CALLS
     requires code { IsCodeIn dialect.now code (C.target target.old) }
     requires usable { IsUsable (row + 1) (C.target target.old) }
     requires room { size + 17 ≤ length ahead.now }
-    ensures fault { IsTrue result → (start : ℕ) → fault_in (answer_as dialect.now
+    requires fits { start + size < 2 ^ 64 }
+    ensures fault { IsTrue result → fault_in (answer_as dialect.now
         (option_map kind_of (C.target target.old))
         (record { start = start; text = take size ahead.now })) ≡ None }
-    ensures target { IsTrue result → (start : ℕ) → C.target target.new ≡ option_map (put_read row
+    ensures target { IsTrue result → C.target target.new ≡ option_map (put_read row
         (answer_as dialect.now (option_map kind_of (C.target target.old))
         (record { start = start; text = take size ahead.now }))) (C.target target.old) }
     ensures kept { result ≡ false → C.target target.new ≡ C.target target.old }
 {
     if code < U8 {
+        if HAS_CALLS && code == TEXTS {
+            return read_text_cell(target, row, start, ahead, size, dialect);
+        }
         if HAS_CALLS && code == AMOUNTS {
             return read_amount::<C, HAS_QUOTES>(target, row, ahead, size, dialect);
         }

@@ -172,6 +172,7 @@ pub(crate) fn read_row_on<'a, C: TableColumn, const HAS_QUOTES: bool, const HAS_
             return next.left;
         }
         let read = read_cells_at_once::<C, HAS_QUOTES, HAS_CALLS>(
+            start + text.len(),
             text,
             next.left,
             next.column,

@@ -53,6 +53,37 @@ pub(crate) fn read_text<C: TableColumn>(
     true
 }
 
+// Reads a cell as `read_text` does, the first `size` bytes of a text. Out of line, to keep registers
+// for the loop.
+#[inline(never)]
+pub(crate) fn read_text_cell<C: TableColumn>(
+    target: &mut C,
+    row: usize,
+    start: usize,
+    ahead: &[u8],
+    size: usize,
+    dialect: &Dialect<'_>,
+) -> bool
+    requires usable { IsUsable (row + 1) (C.target target.old) }
+    requires text { keeps_text (C.target target.old) ≡ true }
+    requires within { size ≤ length ahead.now }
+    requires fits { start + size < 2 ^ 64 }
+    ensures fault { IsTrue result → fault_in (answer_as dialect.now
+        (option_map kind_of (C.target target.old))
+        (record { start = start; text = take size ahead.now })) ≡ None }
+    ensures target { IsTrue result → C.target target.new ≡ option_map (put_read row
+        (answer_as dialect.now (option_map kind_of (C.target target.old))
+        (record { start = start; text = take size ahead.now }))) (C.target target.old) }
+    ensures kept { result ≡ false → C.target target.new ≡ C.target target.old }
+{
+    let cell = Cell {
+        start,
+        text: &ahead[..size],
+        ahead,
+    };
+    read_text(target, row, cell, dialect)
+}
+
 // Whether a text may be the mark of a column: it has that many bytes. None of them is read.
 #[inline(always)]
 fn may_be_mark<C: TableColumn>(target: &C, text: &[u8], mark: &[u8]) -> bool

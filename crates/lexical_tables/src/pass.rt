@@ -41,10 +41,11 @@ pub(crate) fn marked_separator(text: &[u8], dialect: &Dialect<'_>) -> Option<u8>
 }
 
 // Reads cells of a row at once, by the codes of their columns, from what is left of it on, as long as marks find them and they are
-// had, up to the row's end, if nothing is wrong there. Without `HAS_CALLS` no call stands in the loop, so that all it needs
-// stays in registers.
+// had, up to the row's end, if nothing is wrong there. `end` is the place behind the text. Without `HAS_CALLS` no call stands in the
+// loop, so that all it needs stays in registers.
 #[inline(always)]
 pub(crate) fn read_cells_at_once<'a, C: TableColumn, const HAS_QUOTES: bool, const HAS_CALLS: bool>(
+    end: usize,
     text: &[u8],
     from: Left<'a>,
     first: usize,
@@ -64,15 +65,16 @@ pub(crate) fn read_cells_at_once<'a, C: TableColumn, const HAS_QUOTES: bool, con
     requires marked { IsMarked dialect.now separator }
     requires codes { AreCodes dialect.now codes.now (map C.target targets.old) }
     requires usable { AreUsable (index + 1) (map C.target targets.old) }
+    requires within { length text.now ≤ end }
     ensures goes_on { result.is_done ≡ false
-        → GoesOn dialect.now index text.now from.entry.text.now result.left.text.now
+        → GoesOn dialect.now index end text.now from.entry.text.now result.left.text.now
         (map C.target targets.old) (map C.target targets.new) first result.column }
     ensures here { result.is_done ≡ false
         → IsOnRow dialect.now separator text.now result.left.text.now }
     ensures codes { result.is_done ≡ false
         → AreCodes dialect.now codes.now (map C.target targets.new) }
     ensures usable { result.is_done ≡ false → AreUsable (index + 1) (map C.target targets.new) }
-    ensures done { result.is_done ≡ true → GoesToEnd dialect.now index text.now from.entry.text.now
+    ensures done { result.is_done ≡ true → GoesToEnd dialect.now index end text.now from.entry.text.now
         (map C.target targets.old) (map C.target targets.new) first }
     ensures behind { result.is_done ≡ true → result.left.text.now
         ≡ behind_piece dialect.now.layout dialect.now.has_quotes text.now }
@@ -99,8 +101,9 @@ pub(crate) fn read_cells_at_once<'a, C: TableColumn, const HAS_QUOTES: bool, con
         if ends_wrong(left.text, part, count, columns, dialect) {
             return not_done(left, column);
         }
+        let place = end - left.text.len();
         if !read_coded_cell::<C, HAS_QUOTES, HAS_CALLS>(
-            targets, codes, column, index, left.text, part.size, dialect, options,
+            targets, codes, column, index, place, left.text, part.size, dialect, options,
         ) {
             return not_done(left, column);
         }
@@ -167,7 +170,7 @@ pub(crate) fn read_marked_row<
         result.left.marks }
 {
     let read = read_cells_at_once::<C, HAS_QUOTES, HAS_CALLS>(
-        text.text, text, 0, index, columns, separator, codes, dialect, options, targets,
+        end, text.text, text, 0, index, columns, separator, codes, dialect, options, targets,
     );
     if read.is_done {
         return Behind {

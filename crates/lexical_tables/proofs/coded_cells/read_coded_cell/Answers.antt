@@ -17,16 +17,18 @@ read_coded-requires-clause-usable g c =
     (c.args.row + 1) c.requires.usable
 
 pub returns-clause-fault : goal.returns-clause-fault
-returns-clause-fault g c = λ did start.
+returns-clause-fault g c = λ did.
+    let start = c.args.start in
     let low : c.args.column < length c.args.targets.now = grind (arith, nat_tests) in
     ap fault_in (sym (answer_told g.C.TableColumn.target c.args.dialect.now c.args.targets.now c.args.column
-    (record { start = start; text = take c.args.size c.args.ahead.now }) low _)) ∙ c.read_coded.ensures.fault did start
+    (record { start = start; text = take c.args.size c.args.ahead.now }) low _)) ∙ c.read_coded.ensures.fault did
 
 pub returns-clause-targets : goal.returns-clause-targets
-returns-clause-targets g c = λ did start.
+returns-clause-targets g c = λ did.
+    let start = c.args.start in
     let low : c.args.column < length c.args.targets.now = grind (arith, nat_tests) in
     targets_told g.C.TableColumn.target c.args.dialect.now c.args.targets.now c.args.column
-    (record { start = start; text = take c.args.size c.args.ahead.now }) low _ c.args.row c.read_coded.new.target (c.read_coded.ensures.target did start)
+    (record { start = start; text = take c.args.size c.args.ahead.now }) low _ c.args.row c.read_coded.new.target (c.read_coded.ensures.target did)
 
 pub returns-clause-kept : goal.returns-clause-kept
 returns-clause-kept g c = λ not_read.

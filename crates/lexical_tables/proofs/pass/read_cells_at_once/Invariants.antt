@@ -12,7 +12,7 @@ invariant-loop-column g l =
     × AreEnds l.dialect.has_quotes l.separator l.left.text.now l.left.marks
     × AreCodes l.dialect l.codes (map g.C.TableColumn.target l.targets)
     × AreUsable (l.index + 1) (map g.C.TableColumn.target l.targets)
-    × GoesOn l.dialect l.index l.text l.fn.from.text.now l.left.text.now (map g.C.TableColumn.target l.initial.targets)
+    × GoesOn l.dialect l.index l.end l.text l.fn.from.text.now l.left.text.now (map g.C.TableColumn.target l.initial.targets)
     (map g.C.TableColumn.target l.targets) l.fn.first l.column
     × (l.fn.first ≤ l.column)
     × (l.column ≤ l.columns)

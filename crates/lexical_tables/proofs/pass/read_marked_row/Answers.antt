@@ -16,7 +16,7 @@ returns-then-read-clause-fault g c =
     let none : length text - length text ≡ 0 = omega arith in
     let put = row_starts (kinds_of old) d c.args.index row old _ refl c.requires.usable
     (ap (cells_behind d row 0) none ∙ cells_begin d row) in
-    c.requires.fine ∙ (c.read_cells_at_once-read.ensures.done c.if-read.true start (kinds_of old) old put).fault_is
+    c.requires.fine ∙ (c.read_cells_at_once-read.ensures.done c.if-read.true start (omega (arith, c.requires.within)) (kinds_of old) old put).fault_is
 
 pub returns-then-read-clause-targets : goal.returns-then-read-clause-targets
 returns-then-read-clause-targets g c =
@@ -28,7 +28,7 @@ returns-then-read-clause-targets g c =
     let none : length text - length text ≡ 0 = omega arith in
     let put = row_starts (kinds_of old) d c.args.index row old _ refl c.requires.usable
     (ap (cells_behind d row 0) none ∙ cells_begin d row) in
-    (c.read_cells_at_once-read.ensures.done c.if-read.true start (kinds_of old) old put).targets_are
+    (c.read_cells_at_once-read.ensures.done c.if-read.true start (omega (arith, c.requires.within)) (kinds_of old) old put).targets_are
 
 pub returns-clause-fault : goal.returns-clause-fault
 returns-clause-fault g c =
@@ -40,7 +40,7 @@ returns-clause-fault g c =
     let none : length text - length text ≡ 0 = omega arith in
     let put = row_starts (kinds_of old) d c.args.index row old _ refl c.requires.usable
     (ap (cells_behind d row 0) none ∙ cells_begin d row) in
-    let on = c.read_cells_at_once-read.ensures.goes_on c.if-read.false start (kinds_of old) old put in
+    let on = c.read_cells_at_once-read.ensures.goes_on c.if-read.false start (omega (arith, c.requires.within)) (kinds_of old) old put in
     (c.read_row_on-left.ensures.done (kinds_of old) old on).fault_is
 
 pub returns-clause-targets : goal.returns-clause-targets
@@ -53,5 +53,5 @@ returns-clause-targets g c =
     let none : length text - length text ≡ 0 = omega arith in
     let put = row_starts (kinds_of old) d c.args.index row old _ refl c.requires.usable
     (ap (cells_behind d row 0) none ∙ cells_begin d row) in
-    let on = c.read_cells_at_once-read.ensures.goes_on c.if-read.false start (kinds_of old) old put in
+    let on = c.read_cells_at_once-read.ensures.goes_on c.if-read.false start (omega (arith, c.requires.within)) (kinds_of old) old put in
     (c.read_row_on-left.ensures.done (kinds_of old) old on).targets_are
