@@ -174,7 +174,8 @@ fn code_in<C: TableColumn>(target: &C, dialect: &Dialect<'_>, is_mark_number: bo
     code
 }
 
-// Asks each column that may have a code for it, and returns whether the numbers of one are read by a call.
+// Asks each column that may have a code for it, and returns whether the cells of one are read by a
+// call.
 #[inline(never)]
 pub(crate) fn put_codes<C: TableColumn>(
     dialect: &Dialect<'_>,

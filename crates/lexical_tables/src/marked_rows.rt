@@ -66,8 +66,8 @@ fn read_coded_rows<C: TableColumn, const HAS_QUOTES: bool, const HAS_CALLS: bool
     })
 }
 
-// `read_coded_rows` of a table with amounts, or with numbers of other formats, which calls read in its loop. Out of line, so that
-// other tables have a loop of their own, without a call.
+// `read_coded_rows` of a table with texts, amounts or numbers of other formats, which calls read in
+// its loop. Out of line, so that other tables have a loop of their own, without a call.
 #[inline(never)]
 fn read_called_rows<C: TableColumn, const HAS_QUOTES: bool>(
     text: &[u8],

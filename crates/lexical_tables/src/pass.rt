@@ -40,9 +40,9 @@ pub(crate) fn marked_separator(text: &[u8], dialect: &Dialect<'_>) -> Option<u8>
     Some(separator)
 }
 
-// Reads cells of a row at once, by the codes of their columns, from what is left of it on, as long as marks find them and they are
-// had, up to the row's end, if nothing is wrong there. `end` is the place behind the text. Without `HAS_CALLS` no call stands in the
-// loop, so that all it needs stays in registers.
+// Reads cells of a row by the codes of their columns, from `from` on, while marks find the cells and
+// each is read at once, up to the row's end, if nothing is wrong there. `end` is the place behind
+// the text. Without `HAS_CALLS` no call stands in the loop, so that all it needs stays in registers.
 #[inline(always)]
 pub(crate) fn read_cells_at_once<'a, C: TableColumn, const HAS_QUOTES: bool, const HAS_CALLS: bool>(
     end: usize,
@@ -284,8 +284,8 @@ pub(crate) fn behind_empty_rows<'a>(
     Left { text, marks: 0 }
 }
 
-// Asks the columns for their codes, where marks find the cells, and returns whether the numbers of
-// one are read by a call. Elsewhere it asks for no code, and returns `false`.
+// Asks the columns for their codes, where marks find the cells, and returns whether the cells of one
+// are read by a call. Elsewhere it asks for no code, and returns `false`.
 #[inline(always)]
 pub(crate) fn ask_codes<C: TableColumn>(
     marked: Option<u8>,

@@ -174,10 +174,10 @@ fn skip_coded_rows<C: TableColumn, B: KeptRow, const HAS_QUOTES: bool, const HAS
     }
 }
 
-// `skip_coded_rows` of a table with amounts, or with numbers of other formats, which calls read in
+// `skip_coded_rows` of a table with texts, amounts or numbers of other formats, which calls read in
 // its loop. Out of line, as `read_called_rows` is.
 #[inline(never)]
-fn skip_amount_rows<C: TableColumn, B: KeptRow, const HAS_QUOTES: bool>(
+fn skip_called_rows<C: TableColumn, B: KeptRow, const HAS_QUOTES: bool>(
     text: &[u8],
     marked: Option<u8>,
     codes: &[u8; CODED],
@@ -231,7 +231,7 @@ fn skip_rows<C: TableColumn, B: KeptRow, const HAS_QUOTES: bool>(
     let marked = marked_separator(text, dialect);
     let mut codes = [UNKNOWN; CODED];
     if ask_codes(marked, dialect, targets, &mut codes) {
-        return skip_amount_rows::<C, B, HAS_QUOTES>(
+        return skip_called_rows::<C, B, HAS_QUOTES>(
             text, marked, &codes, dialect, options, rows, targets, bad,
         );
     }
