@@ -35,7 +35,8 @@ pub(crate) fn read_coded_cell<C: TableColumn, const HAS_QUOTES: bool, const HAS_
     ensures fault { IsTrue result → fault_in (answer_at dialect.now
         (kinds_of (map C.target targets.old)) column
         (record { start = start; text = take size ahead.now })) ≡ None }
-    ensures targets { IsTrue result → map C.target targets.new ≡ put_read_at row column (answer_at dialect.now (kinds_of (map C.target targets.old)) column
+    ensures targets { IsTrue result → map C.target targets.new ≡ put_read_at row column
+        (answer_at dialect.now (kinds_of (map C.target targets.old)) column
         (record { start = start; text = take size ahead.now })) (map C.target targets.old) }
     ensures kept { result ≡ false → map C.target targets.new ≡ map C.target targets.old }
 {

@@ -74,7 +74,8 @@ pub(crate) fn read_cells_at_once<'a, C: TableColumn, const HAS_QUOTES: bool, con
     ensures codes { result.is_done ≡ false
         → AreCodes dialect.now codes.now (map C.target targets.new) }
     ensures usable { result.is_done ≡ false → AreUsable (index + 1) (map C.target targets.new) }
-    ensures done { result.is_done ≡ true → GoesToEnd dialect.now index end text.now from.entry.text.now
+    ensures done { result.is_done ≡ true
+        → GoesToEnd dialect.now index end text.now from.entry.text.now
         (map C.target targets.old) (map C.target targets.new) first }
     ensures behind { result.is_done ≡ true → result.left.text.now
         ≡ behind_piece dialect.now.layout dialect.now.has_quotes text.now }
