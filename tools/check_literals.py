@@ -95,7 +95,10 @@ def wrong_answers(library: Library, sources: Sources) -> list[str]:
     found = list(literals_of(sources))
     numbers = dict(found)
     values = {text: value_of(number, sources is C) for text, number in numbers.items()}
-    judged = sources.judge.ask(random.Random(1).sample(sorted(numbers), 2000))
+    if not found:
+        print(f"{sources.files}: no such source is on this machine, and all were passed over")
+        return []
+    judged = sources.judge.ask(random.Random(1).sample(sorted(numbers), min(2000, len(numbers))))
     refused = [text for text, value in judged.items() if value is None]
     print(f"{len(found)} literals, {len(numbers)} different ones; of {len(judged)} the compiler "
           f"refuses {refused}", flush=True)

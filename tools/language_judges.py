@@ -128,10 +128,12 @@ MCS = Compiler(
 KOTLINC = Compiler(
     "x.kt", 'fun p(at: Int, value: Long) { println("$at $value") }\nfun main() {\n',
     "p({at}, {text})", "}\n", ["kotlinc", "x.kt", "-d", "x.jar"], ["kotlin", "-cp", "x.jar", "XKt"])
+# (an `integer` has 32 bits, and a literal beyond them ends the program only when that runs)
 GHDL = Compiler(
     "x.vhd", "use std.textio.all;\nentity x is end;\narchitecture a of x is\n"
-    "procedure p(at, value : integer) is variable l : line;\nbegin\n"
-    'write(l, integer\'image(at) & " " & integer\'image(value)); writeline(output, l);\nend;\n'
+    "type wide is range 0 to 16#3fff_ffff_ffff_ffff#;\n"
+    "procedure p(at : integer; value : wide) is variable l : line;\nbegin\n"
+    'write(l, integer\'image(at) & " " & wide\'image(value)); writeline(output, l);\nend;\n'
     "begin process begin\n", "p({at}, {text});", "wait; end process; end a;\n",
     ["ghdl", "-a", "--std=08", "x.vhd"], ["ghdl", "--elab-run", "--std=08", "x"])
 # (it writes two words of eight bytes for each line)
