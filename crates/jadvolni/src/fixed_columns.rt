@@ -1,15 +1,17 @@
 //! The columns of a table that have fixed-point numbers.
 
-ghost use Rattle.std.specs.Prelude.{◌≡◌, ◌≢◌, ◌+◌, ◌<◌, ◌≤◌, ◌^◌, ℕ, IsTrue, None, false, length, take, option_map};
+ghost use Rattle.std.specs.Prelude.{◌≡◌, ◌≢◌, ◌+◌, ◌<◌, ◌≤◌, ◌^◌, ℕ, IsTrue, None, false, length, take, true, option_map};
 ghost use Rattle.lexical_tables.specs.Amounts.{HasAmounts, HasAmountsIfFixed, IsAmountText};
 ghost use Rattle.lexical_tables.specs.ByColumn.{IsUsable};
-ghost use Rattle.lexical_tables.specs.Targets.{keeps_text, text_fault};
+ghost use Rattle.lexical_tables.specs.Codes.{IsCode};
+ghost use Rattle.lexical_tables.specs.Targets.{has_numbers, keeps_text, text_fault};
 ghost use Rattle.jadvolni.specs.Fixed.{fixed_of};
 ghost use Rattle.jadvolni.specs.Tables.{put_number, target_of};
 
 use crate::table_columns::ColumnFields;
 use lexical_fixed::FixedFormat;
 use lexical_parse_integer::Error;
+use lexical_tables::codes::{AT_ONCE, PARSED};
 use lexical_tables::{is_quick, units_of_front};
 
 impl ColumnFields<'_> {
@@ -23,6 +25,19 @@ impl ColumnFields<'_> {
             return self.description.plain();
         }
         self.description.format()
+    }
+
+    // The code of a column of fixed-point numbers: few places behind the standard format are read at once, and others are parsed.
+    #[inline(always)]
+    pub(crate) fn fixed_code(&self) -> u8
+        requires numbers { has_numbers (target_of self.now) ≡ true }
+        ensures { IsCode result (target_of self.now) }
+    {
+        if self.description.places <= 6 && self.description.has_standard_integer() {
+            AT_ONCE
+        } else {
+            PARSED
+        }
     }
 
     // Whether its numbers are amounts that `put_amount` reads: it is asked once a call.

@@ -13,7 +13,7 @@ use crate::arrays::ArrayFields;
 use crate::fixed::FixedFields;
 use crate::text_columns::{TextFields, text_fields};
 use lexical_parse_integer::{Error, Options};
-use lexical_tables::codes::{AT_ONCE, NOT_READ, PARSED, TEXTS, has_bits, under_format};
+use lexical_tables::codes::{NOT_READ, PARSED, TEXTS, has_bits, under_format};
 use lexical_tables::{CellText, TableColumn, put_bit};
 
 /// The status of a table that no text can be read by.
@@ -313,11 +313,7 @@ impl TableColumn for ColumnFields<'_> {
             };
         };
         if self.description.places != 0 {
-            return if self.description.has_standard_integer() {
-                AT_ONCE
-            } else {
-                PARSED
-            };
+            return self.fixed_code();
         }
         let code = self.standard_code(numbers);
         if self.is_standard() {

@@ -1,5 +1,5 @@
 -- Descriptions whose integer part is decimal, without punctuation.
-use Rattle.std.proofs.Common.{◌≡◌, ◌≤◌, Bool, false, ℕ, Option, Some, None, refl, sym, ◌∙◌, arith}
+use Rattle.std.proofs.Common.{◌≡◌, ◌≤◌, false, None, refl, sym, ◌∙◌, arith}
 use Rattle.std.specs.Prelude.{nat_lt}
 use Rattle.std.proofs.lemmas.Bool.Decides.{nat_tests}
 use Rattle.lexical_util.specs.declared.format.kind.FormatKind.TheVariants.{Decimal, Invalid}

@@ -307,6 +307,14 @@ a_separator_before_the_point : complete_fixed grouped i64 (codes "1,.50") ≡ Er
 unfolding grammar fixed_grammar
 a_separator_before_the_point = refl
 
+a_letter_between_groups : complete_fixed grouped i64 (codes "1,23x4.50") ≡ Err (InvalidDigit 4)
+unfolding grammar fixed_grammar
+a_letter_between_groups = refl
+
+a_second_point : complete_fixed grouped i64 (codes "1.5.00") ≡ Err (InvalidDigit 3)
+unfolding grammar fixed_grammar
+a_second_point = refl
+
 another_point : complete_fixed cents i64 (codes "12,50") ≡ Err (InvalidDigit 2)
 unfolding grammar fixed_grammar
 another_point = refl

@@ -18,7 +18,7 @@ use Rattle.lexical_parse_integer.specs.Runs.{are_same}
 use Rattle.lexical_fixed.specs.Grammar.{is_negative}
 
 -- an answer without a fault is the value
-value_told : {A : Type 0} (faults : List (Option Error)) (v w : A) → first_fault_or faults v ≡ Ok w → v ≡ w
+pub value_told : {A : Type 0} (faults : List (Option Error)) (v w : A) → first_fault_or faults v ≡ Ok w → v ≡ w
 value_told [] v w told = cc
 value_told (None ∷ faults) v w told = value_told faults v w told
 value_told (Some error ∷ faults) v w told = cc

@@ -9,6 +9,7 @@ mod FrontByWhole
 mod IntegerParts
 mod JoinedDigits
 mod LastFractions
+mod LastPoints
 mod PartedTexts
 mod Places
 mod QuickDigits

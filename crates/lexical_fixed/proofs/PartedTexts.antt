@@ -1,8 +1,7 @@
 -- A whole text of digits, around a point or alone, is the number in units: for the way of any length.
-use Rattle.std.proofs.Common.{◌≡◌, ℕ, zero, suc, ◌+◌, ◌-◌, ◌≤◌, ◌<◌, Bool, true, false, not, ◌&&◌, ◌||◌, List, [], ◌∷◌, get_or, length, take, drop, Some, IsNone, is_some, Ok, refl, sym, ap, subst, ◌∙◌, arith, inl, inr, ◌⊎◌}
+use Rattle.std.proofs.Common.{◌≡◌, ℕ, zero, suc, ◌+◌, ◌-◌, ◌≤◌, ◌<◌, Bool, true, false, List, [], ◌∷◌, get_or, length, take, drop, Some, IsNone, is_some, Ok, refl, sym, ap, subst, ◌∙◌, arith, ◌⊎◌}
 use Rattle.std.proofs.Math.IntN.{ℤ}
 use Rattle.std.proofs.Math.Nat.{min-eq_right}
-use Rattle.std.proofs.Math.Seq.{take-length}
 use Rattle.std.proofs.lemmas.Bool.{le-ltb, lt-ltb}
 use Rattle.std.proofs.lemmas.Bool.Decides.{nat_tests}
 use Rattle.std.proofs.lemmas.List.{length-drop, take_all}
@@ -21,8 +20,8 @@ use Rattle.lexical_parse_integer.proofs.ForCallers.{begins_read}
 use Rattle.lexical_fixed.specs.Append.{IsAppended}
 use Rattle.lexical_fixed.specs.Fixed.{Fixed}
 use Rattle.lexical_fixed.specs.Fraction.{digits_from, fraction, fraction_length, has_bare_point, has_point_at, lacks_places, read_digits, read_zeros, whole_end}
-use Rattle.lexical_fixed.specs.Grammar.{complete_fixed, integer_part, is_negative, units_behind, whole_behind, zeros_left}
-use Rattle.lexical_fixed.specs.Parted.{IsParted, IsSummed, point_place}
+use Rattle.lexical_fixed.specs.Grammar.{complete_fixed, integer_part, is_negative, whole_behind, zeros_left}
+use Rattle.lexical_fixed.specs.Parted.{IsParted, IsSummed}
 use Rattle.lexical_fixed.specs.Quick.{IsBare}
 use Rattle.lexical_fixed.specs.Validity.{fixed_fault}
 use Rattle.lexical_fixed.proofs.Appended.{appended_read, appended_sign}
@@ -37,14 +36,14 @@ use Rattle.lexical_fixed.proofs.WholeByFront.{no_point_at_end}
 
 -- What stands behind an integer part up to the text's end: a point and a fraction of `count`
 -- digits, or nothing.
-record EndsWith (f : Fixed) (text rest : List ℕ) (place count : ℕ) : Type 0 where
-  counted : fraction_length f text place ≡ count
-  digits : fraction f text place ≡ rest
-  ends : whole_end f text place ≡ length text
-  bare : has_bare_point f text place ≡ false
+pub record EndsWith (f : Fixed) (text rest : List ℕ) (place count : ℕ) : Type 0 where
+  pub counted : fraction_length f text place ≡ count
+  pub digits : fraction f text place ≡ rest
+  pub ends : whole_end f text place ≡ length text
+  pub bare : has_bare_point f text place ≡ false
 
 -- nothing
-ends_alone : (f : Fixed) (text rest : List ℕ) (place : ℕ) → place ≡ length text → rest ≡ drop place text → EndsWith f text rest place 0
+pub ends_alone : (f : Fixed) (text rest : List ℕ) (place : ℕ) → place ≡ length text → rest ≡ drop place text → EndsWith f text rest place 0
 unfolding fraction_length whole_end has_bare_point
 ends_alone f text rest place end is =
     let none : has_point_at f text place ≡ false = no_point_at_end f text place end in
@@ -56,7 +55,7 @@ ends_alone f text rest place end is =
     drop_all (x ∷ xs) = drop_all xs
 
 -- digits behind the point
-ends_behind : (f : Fixed) (text rest : List ℕ) (place count : ℕ) → are_same (Some f.point) (slice_get text place) ≡ true → rest ≡ drop (place + 1) text → AreDigits 10 rest → length rest ≡ count
+pub ends_behind : (f : Fixed) (text rest : List ℕ) (place count : ℕ) → are_same (Some f.point) (slice_get text place) ≡ true → rest ≡ drop (place + 1) text → AreDigits 10 rest → length rest ≡ count
     → 1 ≤ count → count ≤ f.places → length text ≡ place + 1 + count → EndsWith f text rest place count
 unfolding has_point_at fraction_length whole_end has_bare_point digits_from
 ends_behind f text rest place count some is digits size more room long =
@@ -80,7 +79,7 @@ ends_behind f text rest place count some is digits size more room long =
     some_count (suc n) l = grind (arith, nat_tests)
 
 -- behind a known integer part
-whole_there : (f : Fixed) (t : IntegerType) (text rest : List ℕ) (whole written units : ℤ) (place count : ℕ) → EndsWith f text rest place count → (f.places ≤ count) ⊎ (f.takes_fewer ≡ true) → HasSign (is_negative t text) whole
+pub whole_there : (f : Fixed) (t : IntegerType) (text rest : List ℕ) (whole written units : ℤ) (place count : ℕ) → EndsWith f text rest place count → (f.places ≤ count) ⊎ (f.takes_fewer ≡ true) → HasSign (is_negative t text) whole
     → IsAppended t (is_negative t text) whole rest written → Ok units ≡ read_zeros t (is_negative t text) written (f.places - count) (length text) → whole_behind f t text whole place ≡ Ok units
 unfolding whole_behind
 whole_there f t text rest whole written units place count e taken sign r zeros =

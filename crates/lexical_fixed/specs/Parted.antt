@@ -1,7 +1,9 @@
 -- What is found out about a whole text of digits, before it has a number.
-use Rattle.std.specs.Prelude.{◌≡◌, ◌+◌, ◌-◌, ◌≤◌, ℕ, ℤ, ◌==◌, Bool, true, if◌then◌else◌, List, drop, length, slice_get, take, Some, ◌⊎◌}
+use Rattle.std.specs.Prelude.{◌≡◌, ◌+◌, ◌-◌, ◌≤◌, ℕ, ℤ, ◌==◌, Bool, false, true, if◌then◌else◌, List, drop, length, slice_get, take, Some, ◌⊎◌, ⊤}
 use Rattle.lexical_digits.specs.WrittenNumbers.{StandsFor}
 use Rattle.lexical_util.specs.Number.{IntegerType}
+use Rattle.lexical_util.specs.declared.error.Error.{Error}
+use Rattle.lexical_util.specs.declared.error.Error.TheVariants.{Empty, InvalidDigit}
 use Rattle.lexical_parse_integer.specs.Runs.{are_same}
 use Rattle.lexical_fixed.specs.Append.{IsAppended}
 use Rattle.lexical_fixed.specs.Fixed.{Fixed}
@@ -27,3 +29,11 @@ pub record IsSummed (type : IntegerType) (is_negative : Bool) (bytes : List ℕ)
   pub whole : ℤ
   pub stands : StandsFor type 10 is_negative (take (point_place bytes count) bytes) whole
   pub appended : IsAppended type is_negative whole (drop (length bytes - count) bytes) value
+
+-- A fault of what stands before the last point is that of the text: no digit is missing, and where a byte can't stand, that
+-- isn't the point.
+abbrev pub IsToldBefore : Fixed → List ℕ → Error → Type 0
+IsToldBefore fixed text (InvalidDigit place) =
+    are_same (Some fixed.point) (slice_get text place) ≡ false
+IsToldBefore fixed text (Empty place) = ⊥
+IsToldBefore fixed text error = ⊤

@@ -6,7 +6,7 @@ ghost use Rattle.lexical_fixed.specs.Validity.{fixed_fault};
 
 use crate::error::FixedError;
 use crate::format::FixedFormat;
-use crate::parse::{complete, partial, read_whole};
+use crate::parse::{complete, complete_if_not_short, partial};
 use lexical_util::num::Integer;
 use lexical_util::result::Result;
 
@@ -46,7 +46,7 @@ fn whole_under_any<T: Integer>(
 {
     match format.error() {
         Some(broken) => Err(FixedError::Format(broken)),
-        None => match read_whole::<T>(bytes, format) {
+        None => match complete_if_not_short::<T>(bytes, format) {
             Ok(value) => Ok(value),
             Err(error) => Err(FixedError::Text(error)),
         },

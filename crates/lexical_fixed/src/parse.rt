@@ -9,10 +9,12 @@ ghost use Rattle.lexical_fixed.specs.Fraction.{fraction_length, front_end, whole
 ghost use Rattle.lexical_fixed.specs.Grammar.{complete_fixed, front_behind, integer_part, is_negative, partial_fixed, units_behind, whole_behind, whole_fault};
 ghost use Rattle.lexical_fixed.specs.Validity.{fixed_fault};
 
+use crate::by_point::complete_by_point;
 use crate::format::FixedFormat;
 use crate::fraction::{digits_behind, fraction, has_point_at, read_digits, read_zeros};
 use crate::parted::whole_at_once;
 use crate::quick::{front_at_once, plain_part, value_if_short};
+use crate::short::is_bare;
 use lexical_parse_integer::parse::ParseInteger;
 use lexical_parse_integer::{number_in_front, options};
 use lexical_util::error::Error;
@@ -166,7 +168,12 @@ fn lacks_places(format: &FixedFormat, count: usize) -> bool
 // What the whole text stands for, behind its integer part.
 #[inline(always)]
 #[tactic(auto, unfolding(crate::specs::Grammar::whole_behind, crate::specs::Fraction::has_bare_point, crate::specs::Fraction::lacks_places))]
-fn whole_behind<T: Integer>(text: &[u8], format: &FixedFormat, whole: T, place: usize) -> Result<T>
+pub(crate) fn whole_behind<T: Integer>(
+    text: &[u8],
+    format: &FixedFormat,
+    whole: T,
+    place: usize,
+) -> Result<T>
     requires within { place ≤ length text.now }
     requires sign { HasSign (is_negative T.TYPE text.now) (T.number whole) }
     ensures { view_of T.number result
@@ -237,6 +244,9 @@ pub fn complete_if_not_short<T: Integer>(text: &[u8], format: &FixedFormat) -> R
     requires valid { IsNone (fixed_fault format.now) }
     ensures { view_of T.number result ≡ complete_fixed format.now T.TYPE text.now }
 {
+    if !is_bare(format.integer()) {
+        return complete_by_point::<T>(text, format);
+    }
     match whole_at_once::<T>(text, format) {
         Some(units) => Ok(units),
         None => read_whole::<T>(text, format),

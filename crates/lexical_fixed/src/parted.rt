@@ -2,13 +2,14 @@
 // that, or digits alone. `None` says nothing of the text.
 ghost use Rattle.std.specs.Prelude.{◌≡◌, ◌+◌, ◌≤◌, IfSome, IsNone, IsTrue, Ok, length};
 ghost use Rattle.lexical_fixed.specs.Grammar.{complete_fixed};
-ghost use Rattle.lexical_fixed.specs.Parted.{IsParted, IsSummed};
+ghost use Rattle.lexical_fixed.specs.Parted.{IsParted, IsSummed, point_place};
+ghost use Rattle.lexical_fixed.specs.Quick.{IsBare};
 ghost use Rattle.lexical_fixed.specs.Validity.{fixed_fault};
 
 use crate::append::append_digits;
 use crate::format::FixedFormat;
 use crate::fraction::read_zeros;
-use crate::short::{behind_minus, is_bare, value_of_fewer, value_of_whole};
+use crate::short::{behind_minus, value_of_fewer, value_of_whole};
 use lexical_digits::fronts::value_of_digits;
 use lexical_parse_integer::laws::grammar::front_digits;
 use lexical_util::num::Integer;
@@ -16,7 +17,7 @@ use lexical_util::num::Integer;
 // How many digits stand behind the point, none where there is no point: as many as there are places, or fewer where the
 // description takes that.
 #[inline(always)]
-fn places_written(digits: &[u8], format: &FixedFormat) -> Option<usize>
+pub(crate) fn places_written(digits: &[u8], format: &FixedFormat) -> Option<usize>
     ensures { IfSome result (IsParted format.now digits.now) }
 {
     let size = digits.len();
@@ -40,6 +41,19 @@ fn places_written(digits: &[u8], format: &FixedFormat) -> Option<usize>
     Some(0)
 }
 
+// Where the bytes before the point end, which has `count` bytes behind it: 0 where there is no point.
+#[inline(always)]
+pub(crate) fn point_place(digits: &[u8], count: usize) -> usize
+    requires { 1 ≤ count → count + 2 ≤ length digits.now }
+    ensures answer { result ≡ point_place digits.now count }
+    ensures within { result ≤ length digits.now }
+{
+    if count == 0 {
+        return digits.len();
+    }
+    digits.len() - 1 - count
+}
+
 // The value of the digits as they are written: those of an integer part, and a fraction of `count`
 // digits.
 #[inline(always)]
@@ -52,7 +66,7 @@ fn value_as_written<T: Integer>(digits: &[u8], count: usize, is_negative: bool) 
         (λ value. IsSummed T.TYPE is_negative digits.now count (T.number value)) }
 {
     let size = digits.len();
-    let place = if count == 0 { size } else { size - 1 - count };
+    let place = point_place(digits, count);
     let Some(whole) = value_of_digits::<T>(&digits[..place], is_negative) else {
         return None;
     };
@@ -64,12 +78,13 @@ fn value_as_written<T: Integer>(digits: &[u8], count: usize, is_negative: bool) 
 #[inline(never)]
 pub(crate) fn whole_at_once<T: Integer>(text: &[u8], format: &FixedFormat) -> Option<T>
     requires valid { IsNone (fixed_fault format.now) }
+    requires bare { IsBare format.now.integer }
     ensures { IfSome result
         (λ units. complete_fixed format.now T.TYPE text.now ≡ Ok (T.number units)) }
 {
     // The law by which the front has a digit.
     front_digits();
-    if T::BITS < 32 || !is_bare(format.integer()) || text.is_empty() {
+    if T::BITS < 32 || text.is_empty() {
         return None;
     }
     let (is_negative, digits) = behind_minus::<T>(text);

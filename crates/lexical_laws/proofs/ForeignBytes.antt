@@ -16,6 +16,7 @@ use Rattle.lexical_util.specs.Number.{IntegerType, is_number}
 use Rattle.lexical_util.specs.Validity.{fault}
 use Rattle.lexical_util.proofs.Valid.{digit_below}
 use Rattle.lexical_parse_integer.specs.Affixes.{bare_radix, is_affix, named_radix, numeral_stop, octal_zero_at, prefix_radix, suffix_at}
+use Rattle.lexical_parse_integer.specs.Fronts.{has_digit, has_digit_behind, if_digit, number_in_front}
 use Rattle.lexical_parse_integer.specs.Grammar.{common_faults, digits_required, fault_if, first_fault_or, first_outside, lacks_digits, partial, partial_faults, range_error, range_fault, zero_fault}
 use Rattle.lexical_parse_integer.specs.Head.{Head, chooses_radix, head_after, head_behind, head_of, no_sign, sign, sign_by}
 use Rattle.lexical_parse_integer.specs.Numeral.{Numeral, digit_count, front_value, numeral_in, numeral_value}
@@ -278,6 +279,20 @@ module _ (f : Format) (t : IntegerType) (text rest : List ℕ) (byte : ℕ) (val
       by_head (Err e) is = partial_fault f t longer e (same_head ∙ is) ∙ sym (partial_fault f t text e is)
       by_head (Ok h) is = read_alike h is other'
 
+  -- a digit is read in both, or in none
+  same_digit : has_digit f t longer ≡ has_digit f t text
+  same_digit = by_head (head_of f t text) refl
+    where
+      by_head : (r : Result Head Error) → head_of f t text ≡ r → has_digit f t longer ≡ has_digit f t text
+      by_head (Err e) is = ap (has_digit_behind f longer) (same_head ∙ is) ∙ sym (ap (has_digit_behind f text) is)
+      by_head (Ok h) is =
+          ap (has_digit_behind f longer) (same_head ∙ is) ∙ ap (λ x. nat_lt 0 (digit_count x)) (same_numeral h is)
+          ∙ sym (ap (has_digit_behind f text) is)
+
+  pub number_is_same : partial f t text ≢ Err (Empty (length text)) → number_in_front f t longer ≡ number_in_front f t text
+  number_is_same other' =
+      ap (λ b. if_digit b (partial f t longer)) same_digit ∙ ap (if_digit (has_digit f t text)) (read_is_same other')
+
 -- ---- texts that begin with a digit
 
 not_empty : (zeros m : Bool) (outside : Option ℕ) (at : ℕ → ℕ) (place size : ℕ) (v : ℤ × ℕ) →
@@ -319,7 +334,7 @@ some_digit f pre r c cs first = by_end (end_of f pre r (c ∷ cs) 0) refl
     by_end (suc n) e = let size : suc n - 0 ≡ suc n = omega arith in rw size (rw first (ne_eqb (suc _) 0 (λ e. omega arith)))
 
 -- no byte names a radix
-unprefixed : (f : Format) (c : ℕ) → f.base_prefix ≡ None → f.literal_prefixes ≡ false → named_radix f (Some c) ≡ None
+pub unprefixed : (f : Format) (c : ℕ) → f.base_prefix ≡ None → f.literal_prefixes ≡ false → named_radix f (Some c) ≡ None
 unfolding named_radix is_affix
 unprefixed f c none unasked = rw (none, unasked) refl
 

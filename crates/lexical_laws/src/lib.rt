@@ -100,13 +100,17 @@ pub fn dead_places()
 ///
 /// `12;3` is read as `12` is. A text that lacks its end may be read otherwise: with the prefix `x`
 /// and no separator, `0x` is `Empty(2)`, but of `0x;` the front `0x` is 0. So either the text isn't
-/// such a one (`read`), or the format asks for a digit and has a separator (`asked`), or it has no
+/// such a one (`read`; `number` where a digit is asked for), or the format asks for a digit and has a separator (`asked`), or it has no
 /// prefix and the text begins with a digit (`digit`).
 pub fn foreign_bytes()
     ensures read { (format : Format) (type : IntegerType) (text rest : List ℕ) (byte : ℕ)
         → IsNone (fault format) → IsForeign format byte
         → partial format type text ≢ Err (Empty (length text))
         → partial format type (text ++ byte ∷ rest) ≡ partial format type text }
+    ensures number { (format : Format) (type : IntegerType) (text rest : List ℕ) (byte : ℕ)
+        → IsNone (fault format) → IsForeign format byte
+        → partial format type text ≢ Err (Empty (length text))
+        → number_in_front format type (text ++ byte ∷ rest) ≡ number_in_front format type text }
     ensures asked { (format : Format) (type : IntegerType) (text rest : List ℕ) (byte : ℕ)
         → IsNone (fault format) → IsForeign format byte
         → digits_required format ≡ true → IsSome format.digit_separator

@@ -4,7 +4,7 @@ ghost use Rattle.lexical_tables.specs.Targets.{view_of_column};
 
 use crate::amounts::is_quick;
 use crate::cell_text::CellText;
-use crate::codes::{AT_ONCE, NOT_READ, TEXTS};
+use crate::codes::{NOT_READ, TEXTS};
 use crate::fixed_targets::FixedTarget;
 use crate::targets::{TableColumn, Target};
 use crate::text_targets::TextTarget;
@@ -121,7 +121,7 @@ impl TableColumn for Column<'_> {
         match self {
             Column::Unread => NOT_READ,
             Column::Integers(target) => target.code(),
-            Column::FixedPoints(_) => AT_ONCE,
+            Column::FixedPoints(target) => target.code(),
             Column::Texts(_) => TEXTS,
         }
     }

@@ -4,10 +4,12 @@ ghost use Rattle.std.specs.Prelude.{◌≡◌, ◌+◌, ◌*◌, ◌<◌, ◌≤
 ghost use Rattle.lexical_fixed.specs.Validity.{fixed_fault};
 ghost use Rattle.lexical_tables.specs.Amounts.{HasAmounts, IsAmountText};
 ghost use Rattle.lexical_tables.specs.ByColumn.{IsUsable};
+ghost use Rattle.lexical_tables.specs.Codes.{IsCode};
 ghost use Rattle.lexical_tables.specs.Readings.{Number, fixed_answer};
 ghost use Rattle.lexical_tables.specs.Targets.{error_in, put_text, put_value, text_answer, text_fault, view_of_fixed, with_number, with_row_bit};
 
-use crate::amounts::units_of_front;
+use crate::amounts::{is_quick, units_of_front};
+use crate::codes::{AT_ONCE, PARSED};
 use crate::numbers::Numbers;
 use crate::targets::put_presence;
 use lexical_fields::error_in_text;
@@ -96,6 +98,17 @@ pub fn put_fixed_at_once<T: ParseFixed>(
 }
 
 impl FixedTarget<'_> {
+    // The code of the column: amounts are read at once, and other fixed-point numbers are parsed.
+    pub(crate) fn code(&self) -> u8
+        ensures { IsCode result (Some (view_of_fixed self.now)) }
+    {
+        if is_quick(&self.format) {
+            AT_ONCE
+        } else {
+            PARSED
+        }
+    }
+
     // Puts 0 into a row's place, and clears the row's bit.
     pub(crate) fn put_missing(&mut self, row: usize)
         requires usable { IsUsable (row + 1) (Some (view_of_fixed self.old)) }

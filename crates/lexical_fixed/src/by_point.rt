@@ -1,0 +1,126 @@
+// Whole texts by their last point. The bytes before it are read as a whole number under the integer part's format, which may have
+// a separator, or rules on zeros and signs. A fault in them is that of the text.
+ghost use Rattle.std.specs.Prelude.{◌≡◌, ◌≤◌, IfSome, IsNone, IsTrue, None, Ok};
+ghost use Rattle.lexical_util.specs.Digit.{digit};
+ghost use Rattle.lexical_util.specs.Number.{HasSign};
+ghost use Rattle.lexical_parse_integer.specs.Answer.{view_of};
+ghost use Rattle.lexical_fixed.specs.Grammar.{complete_fixed, integer_part, is_negative, whole_behind};
+ghost use Rattle.lexical_fixed.specs.Parted.{IsParted, IsToldBefore, point_place};
+ghost use Rattle.lexical_fixed.specs.Validity.{fixed_fault};
+
+use crate::append::append_digits;
+use crate::format::FixedFormat;
+use crate::fraction::{read_zeros, stands_at};
+use crate::parse::{is_negative, read_whole, whole_behind};
+use crate::parted::{places_written, point_place};
+use lexical_laws::foreign_bytes;
+use lexical_parse_integer::laws::grammar::complete_by_partial;
+use lexical_parse_integer::options;
+use lexical_parse_integer::parse::ParseInteger;
+use lexical_util::digit::char_is_digit;
+use lexical_util::error::Error;
+use lexical_util::num::Integer;
+use lexical_util::result::Result;
+
+// How many bytes stand behind the point that ends the integer part, 0 where there is no point. `None` says nothing of the text: no
+// point is in its place, or it is a letter, or the type is short.
+#[inline(always)]
+fn count_behind_point<T: Integer>(text: &[u8], format: &FixedFormat) -> Option<usize>
+    ensures parted { IfSome result (IsParted format.now text.now) }
+    ensures foreign { IfSome result (λ count. digit 36 format.now.point ≡ None) }
+    ensures bits { IfSome result (λ count. 32 ≤ T.TYPE.bits) }
+{
+    if T::BITS < 32 || char_is_digit(format.point(), 36) {
+        return None;
+    }
+    places_written(text, format)
+}
+
+// The number in units behind an integer part, where `count` digits behind its point are all of the text.
+#[inline(always)]
+fn units_at_once<T: Integer>(text: &[u8], format: &FixedFormat, whole: T, count: usize) -> Option<T>
+    requires bits { 32 ≤ T.TYPE.bits }
+    requires parted { IsParted format.now text.now count }
+    requires sign { HasSign (is_negative T.TYPE text.now) (T.number whole) }
+    ensures { IfSome result (λ units. whole_behind format.now T.TYPE text.now (T.number whole)
+        (point_place text.now count) ≡ Ok (T.number units)) }
+{
+    let is_negative = is_negative::<T>(text);
+    let size = text.len();
+    let Some(written) = append_digits::<T>(whole, &text[size - count..], is_negative) else {
+        return None;
+    };
+    let zeros = format.places() - count;
+    match read_zeros::<T>(written, zeros, size, is_negative) {
+        Ok(units) => Some(units),
+        Err(_) => None,
+    }
+}
+
+// What the text stands for, whose integer part ends at a place, with `count` bytes behind its point.
+#[inline(always)]
+fn units_behind_part<T: Integer>(
+    text: &[u8],
+    format: &FixedFormat,
+    whole: T,
+    count: usize,
+    place: usize,
+) -> Result<T>
+    requires bits { 32 ≤ T.TYPE.bits }
+    requires parted { IsParted format.now text.now count }
+    requires place { place ≡ point_place text.now count }
+    requires part { integer_part format.now.integer T.TYPE text.now ≡ Ok (T.number whole, place) }
+    ensures { view_of T.number result ≡ complete_fixed format.now T.TYPE text.now }
+{
+    match units_at_once::<T>(text, format, whole, count) {
+        Some(units) => Ok(units),
+        None => whole_behind::<T>(text, format, whole, place),
+    }
+}
+
+// Whether a fault before the point is surely that of the text: no digit is missing, and no other point stands at its place.
+fn is_told_before(text: &[u8], format: &FixedFormat, error: Error) -> bool
+    ensures { IsTrue result → IsToldBefore format.now text.now error }
+{
+    match error {
+        Error::InvalidDigit(place) => !stands_at(text, format.point(), place),
+        Error::Empty(_) => false,
+        _ => true,
+    }
+}
+
+// What the text stands for, with `count` bytes behind the point that ends its integer part.
+#[inline(never)]
+fn read_by_point<T: Integer>(text: &[u8], format: &FixedFormat, count: usize) -> Result<T>
+    requires valid { IsNone (fixed_fault format.now) }
+    requires bits { 32 ≤ T.TYPE.bits }
+    requires foreign { digit 36 format.now.point ≡ None }
+    requires parted { IsParted format.now text.now count }
+    ensures { view_of T.number result ≡ complete_fixed format.now T.TYPE text.now }
+{
+    // The laws by which the point ends the integer part, and by which a fault before it is known.
+    foreign_bytes();
+    complete_by_partial();
+    let place = point_place(text, count);
+    match T::parse_complete(&text[..place], format.integer(), &options::STANDARD) {
+        Ok(whole) => units_behind_part::<T>(text, format, whole, count, place),
+        Err(error) => {
+            if is_told_before(text, format, error) {
+                return Err(error);
+            }
+            read_whole::<T>(text, format)
+        }
+    }
+}
+
+// What the whole text stands for. A text whose point isn't in its place costs a look more.
+#[inline(always)]
+pub(crate) fn complete_by_point<T: Integer>(text: &[u8], format: &FixedFormat) -> Result<T>
+    requires valid { IsNone (fixed_fault format.now) }
+    ensures { view_of T.number result ≡ complete_fixed format.now T.TYPE text.now }
+{
+    match count_behind_point::<T>(text, format) {
+        Some(count) => read_by_point::<T>(text, format, count),
+        None => read_whole::<T>(text, format),
+    }
+}
