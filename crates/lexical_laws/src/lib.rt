@@ -100,8 +100,8 @@ pub fn dead_places()
 ///
 /// `12;3` is read as `12` is. A text that lacks its end may be read otherwise: with the prefix `x`
 /// and no separator, `0x` is `Empty(2)`, but of `0x;` the front `0x` is 0. So either the text isn't
-/// such a one (`read`; `number` where a digit is asked for), or the format asks for a digit and has a separator (`asked`), or it has no
-/// prefix and the text begins with a digit (`digit`).
+/// such a one (`read`; `number` where a digit is asked for), or the format asks for a digit and
+/// has a separator (`asked`), or it has no prefix and the text begins with a digit (`digit`).
 pub fn foreign_bytes()
     ensures read { (format : Format) (type : IntegerType) (text rest : List ℕ) (byte : ℕ)
         → IsNone (fault format) → IsForeign format byte
