@@ -27,7 +27,7 @@ impl ColumnFields<'_> {
         self.description.format()
     }
 
-    // The code of a column of fixed-point numbers: few places behind the standard format are read at once, and others are parsed.
+    // The code of a column of fixed-point numbers: those of the standard format with few places are read at once, others parsed.
     #[inline(always)]
     pub(crate) fn fixed_code(&self) -> u8
         requires numbers { has_numbers (target_of self.now) ≡ true }

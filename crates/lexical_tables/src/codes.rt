@@ -33,7 +33,7 @@ pub const AT_ONCE: u8 = 3;
 // `AT_ONCE`.
 pub(crate) const AMOUNTS: u8 = 4;
 
-/// The column's cells are numbers of which `read_at_once` has none: `read_parsed` and `read_left` parse them.
+/// The column's cells are numbers that `read_parsed` and `read_left` parse: `read_at_once` isn't asked for them.
 pub const PARSED: u8 = 5;
 
 // The column's cells are numbers which `TableColumn::read_parsed` parses: neither quotes, blanks nor a mark stand in them. A
