@@ -13,7 +13,7 @@ HEADERS := jadvolni.h jadvolni.hpp $(addprefix jadvolni_,blocks.hpp columns.hpp 
 LIBRARIES := build/libjadvolni.a build/libjadvolni.so
 # The shared library, where there is a compiler that links it.
 SHARED := $(if $(shell command -v $(CC) 2>/dev/null),build/libjadvolni.so)
-LIBRARY_CRATES := jadvolni lexical_tables lexical_fields lexical_literals lexical_fixed lexical_parse_integer lexical_digits lexical_util
+LIBRARY_CRATES := jadvolni lexical_tables lexical_fields lexical_fixed lexical_laws lexical_literals lexical_parse_integer lexical_digits lexical_util
 LIBRARY_SOURCES := $(shell find $(LIBRARY_CRATES:%=crates/%) -name out -prune -o -type f \( -name '*.rt' -o -name '*.antt' \) -print) crates.txt
 
 .PHONY: lib symbols wasm serve paths install-lib uninstall-lib test-c check-c test-js test-page
