@@ -15,8 +15,7 @@ use crate::parse::{is_negative, read_whole, whole_behind};
 use crate::parted::{places_written, point_place};
 use lexical_laws::foreign_bytes;
 use lexical_parse_integer::laws::grammar::complete_by_partial;
-use lexical_parse_integer::options;
-use lexical_parse_integer::parse::ParseInteger;
+use lexical_parse_integer::quick::complete_valid;
 use lexical_util::digit::char_is_digit;
 use lexical_util::error::Error;
 use lexical_util::num::Integer;
@@ -102,7 +101,7 @@ fn read_by_point<T: Integer>(text: &[u8], format: &FixedFormat, count: usize) ->
     foreign_bytes();
     complete_by_partial();
     let place = point_place(text, count);
-    match T::parse_complete(&text[..place], format.integer(), &options::STANDARD) {
+    match complete_valid::<T>(&text[..place], format.integer()) {
         Ok(whole) => units_behind_part::<T>(text, format, whole, count, place),
         Err(error) => {
             if is_told_before(text, format, error) {

@@ -6,8 +6,8 @@ use Rattle.lexical_fixed.proofs.LastPoints.{fault_is, part_is}
 use Rattle.lexical_fixed.proofs.Valid.{integer_valid}
 use Rattle.lexical_fixed.proofs.by_point.read_by_point.Goals as goal
 
-pub parse_complete-requires : goal.parse_complete-requires
-parse_complete-requires g c = record {
+pub complete_valid-requires : goal.complete_valid-requires
+complete_valid-requires g c = record {
   valid = subst (λ (f : Format). IsNone (fault f)) (sym c.integer.ensures) (integer_valid c.args.format.now c.requires.valid);
 }
 
