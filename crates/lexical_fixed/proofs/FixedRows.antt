@@ -115,6 +115,14 @@ groups_with_points : complete_fixed german i64 (codes "-1.234,50") ≡ Ok (negsu
 unfolding grammar fixed_grammar
 groups_with_points = refl
 
+group_behind_two_digits : complete_fixed grouped i64 (codes "12,345.67") ≡ Ok (pos 1234567)
+unfolding grammar fixed_grammar
+group_behind_two_digits = refl
+
+two_groups : complete_fixed german i64 (codes "-1.234.567,89") ≡ Ok (negsuc 123456788)
+unfolding grammar fixed_grammar
+two_groups = refl
+
 no_integer_digit : complete_fixed bare i64 (codes ".5") ≡ Ok (pos 50)
 unfolding grammar fixed_grammar
 no_integer_digit = refl

@@ -1,9 +1,10 @@
--- A text without the byte at one place, as a word and as a number: for the shortest way.
+-- A text without the byte at one place or two, as a word and as a number: for the shortest way.
 use Rattle.std.proofs.Common.{◌≡◌, ℕ, zero, suc, ◌+◌, ◌-◌, ◌*◌, ◌/◌, ◌%◌, ◌^◌, ◌<◌, ◌≤◌, List, [], ◌∷◌, ◌++◌, length, length-append, get_or, take, drop, sym, ap, subst, ◌∙◌, arith}
+use Rattle.std.proofs.Math.Nat.{pow-le-pow_right}
 use Rattle.std.proofs.lemmas.List.{length-drop, length-take-le}
 use Rattle.lexical_digits.specs.Words.{AreDigits, word_bytes, word_value}
 use Rattle.lexical_digits.specs.WrittenNumbers.{bytes_number, with_more}
-use Rattle.lexical_digits.proofs.WordsOfDigits.{AllBytes, HoldsDigits, all_dropped, all_taken, bytes_small, digits_joined, holds_digits, padded, padded_value, raised_none, value_joined}
+use Rattle.lexical_digits.proofs.WordsOfDigits.{AllBytes, HoldsDigits, all_dropped, all_taken, bytes_small, digits_below, digits_joined, holds_digits, padded, padded_value, raised_none, value_joined}
 use Rattle.lexical_fixed.specs.Quick.{IsJoined, without}
 
 -- ---- the word
@@ -127,6 +128,17 @@ pub without_small : (place : ℕ) (bytes : List ℕ) → AllBytes bytes → plac
 without_small place bytes all within =
     subst (λ n. bytes_number (without place bytes) < 256 ^ n) (without_length place bytes within) (bytes_small (without place bytes) (all_without place bytes all))
 
+-- so the word of a text that is taken a byte from twice is that of the text without both
+pub twice_without_number : (near place text_word word next : ℕ) (text : List ℕ) → AllBytes text → near < place → place < length text → length text ≤ 8
+    → text_word ≡ bytes_number text → word ≡ text_word % 256 ^ place + text_word / 256 ^ (place + 1) * 256 ^ place
+    → next ≡ word % 256 ^ near + word / 256 ^ (near + 1) * 256 ^ near → next ≡ bytes_number (without near (without place text))
+twice_without_number near place text_word word next text all before within few is once twice =
+    let size = without_length place text within in
+    let first : word ≡ bytes_number (without place text) =
+    once ∙ ap (λ w. w % 256 ^ place + w / 256 ^ (place + 1) * 256 ^ place) is ∙ without_number place text all within (omega arith) in
+    twice ∙ ap (λ w. w % 256 ^ near + w / 256 ^ (near + 1) * 256 ^ near) first
+    ∙ without_number near (without place text) (all_without place text all) (omega (arith, size)) (omega arith)
+
 digits_behind : (count : ℕ) (bytes : List ℕ) → AreDigits 10 (padded count bytes) → AreDigits 10 bytes
 digits_behind zero bytes digits = digits
 digits_behind (suc count) bytes digits = digits_behind count bytes digits.1
@@ -150,10 +162,17 @@ joined_read bytes word number some few all is digits worth =
     first_small [] all = omega arith
     first_small (b ∷ bs) all = let low = all.0 in omega arith
 
+-- the number of up to eight digits
+pub joined_small : (bytes : List ℕ) (number : ℕ) → length bytes ≤ 8 → IsJoined bytes number → number < 100000000
+joined_small bytes number few joined =
+    let power : 10 ^ length bytes ≤ 10 ^ 8 = pow-le-pow_right {n = 10} (omega arith) few in
+    let below = digits_below bytes number joined.digits joined.worth in
+    omega (arith, below, power)
+
 -- ---- the bytes before a word
 
 -- without a byte behind the first ones, these stand in front of what is left of the others
-without_behind : (k place : ℕ) (bytes : List ℕ) → k ≤ place → k ≤ length bytes → without place bytes ≡ take k bytes ++ without (place - k) (drop k bytes)
+pub without_behind : (k place : ℕ) (bytes : List ℕ) → k ≤ place → k ≤ length bytes → without place bytes ≡ take k bytes ++ without (place - k) (drop k bytes)
 without_behind zero place bytes before within = let same : place ≡ place - 0 = omega arith in ap (λ n. without n bytes) same
 without_behind (suc k) zero bytes before within = absurd (omega arith)
 without_behind (suc k) (suc p) [] before within = absurd (omega arith)

@@ -76,7 +76,7 @@ around byte (b ∷ bs) (suc n) some = ap (λ cs. b ∷ cs) (around byte bs n som
 -- ---- the integer part
 
 -- what the law says of a byte that is no part of a number, for an answer in front of a text
-abbrev SameBehind : (Format → IntegerType → List ℕ → Result (ℤ × ℕ) Error) → Type 0
+abbrev pub SameBehind : (Format → IntegerType → List ℕ → Result (ℤ × ℕ) Error) → Type 0
 SameBehind answer = (format : Format) (type : IntegerType) (text rest : List ℕ) (byte : ℕ) → IsNone (fault format) → IsForeign format byte
     → partial format type text ≢ Err (Empty (length text)) → answer format type (text ++ byte ∷ rest) ≡ answer format type text
 

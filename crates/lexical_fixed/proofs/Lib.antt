@@ -1,5 +1,7 @@
 -- The lemmas on fixed-point numbers. Some may be cited by the crates above.
+mod AmountsAround
 mod Appended
+mod AroundPoint
 mod DecimalParts
 pub mod Digits
 mod FaultPlaces

@@ -93,7 +93,8 @@ minus_is t (c ∷ cs) some = refl
 
 -- ---- the digits
 
-digits_parted : (xs ys : List ℕ) → AreDigits 10 (xs ++ ys) → AreDigits 10 xs × AreDigits 10 ys
+-- digits joined are digits apart
+pub digits_parted : (xs ys : List ℕ) → AreDigits 10 (xs ++ ys) → AreDigits 10 xs × AreDigits 10 ys
 digits_parted [] ys digits = (tt, digits)
 digits_parted (x ∷ xs) ys digits = let rest = digits_parted xs ys digits.1 in ((digits.0, rest.0), rest.1)
 

@@ -1,23 +1,27 @@
 // Whole texts by their last point. The bytes before it are read as a whole number under the integer part's format, which may have
 // a separator, or rules on zeros and signs. A fault in them is that of the text.
-ghost use Rattle.std.specs.Prelude.{◌≡◌, ◌≤◌, IfSome, IsNone, IsTrue, None, Ok};
+ghost use Rattle.std.specs.Prelude.{◌≡◌, ◌≤◌, IfSome, IsNone, IsTrue, None, Ok, length, take, true};
 ghost use Rattle.lexical_util.specs.Digit.{digit};
 ghost use Rattle.lexical_util.specs.Number.{HasSign};
 ghost use Rattle.lexical_parse_integer.specs.Answer.{view_of};
+ghost use Rattle.lexical_parse_integer.specs.Plain.{keeps_zero_rule};
 ghost use Rattle.lexical_fixed.specs.Grammar.{complete_fixed, integer_part, is_negative, whole_behind};
 ghost use Rattle.lexical_fixed.specs.Parted.{IsParted, IsToldBefore, point_place};
 ghost use Rattle.lexical_fixed.specs.Validity.{fixed_fault};
 
 use crate::append::append_digits;
+use crate::around::value_around_point;
 use crate::format::FixedFormat;
 use crate::fraction::{read_zeros, stands_at};
 use crate::parse::{is_negative, read_whole, whole_behind};
 use crate::parted::{places_written, point_place};
+use crate::short::behind_minus;
 use lexical_laws::foreign_bytes;
 use lexical_parse_integer::laws::grammar::complete_by_partial;
 use lexical_parse_integer::quick::complete_valid;
 use lexical_util::digit::char_is_digit;
 use lexical_util::error::Error;
+use lexical_util::format::NumberFormat;
 use lexical_util::num::Integer;
 use lexical_util::result::Result;
 
@@ -88,6 +92,46 @@ fn is_told_before(text: &[u8], format: &FixedFormat, error: Error) -> bool
     }
 }
 
+// Whether the first `count` bytes have no zero in front of another digit, where the format forbids that.
+#[inline(always)]
+fn keeps_zero_rule(bytes: &[u8], format: &NumberFormat, count: usize) -> bool
+    requires some { 1 ≤ count }
+    requires within { count ≤ length bytes.now }
+    ensures { IsTrue result → keeps_zero_rule format.now (take count bytes.now) ≡ true }
+{
+    !format.no_integer_leading_zeros() || count == 1 || bytes[0] != b'0'
+}
+
+// The number of a short text with all places behind its point, which are seven at most: digits alone, or in groups of three.
+#[inline(always)]
+fn units_by_words<T: Integer>(text: &[u8], format: &FixedFormat, count: usize) -> Option<T>
+    requires valid { IsNone (fixed_fault format.now) }
+    requires foreign { digit 36 format.now.point ≡ None }
+    requires parted { IsParted format.now text.now count }
+    ensures { IfSome result
+        (λ units. complete_fixed format.now T.TYPE text.now ≡ Ok (T.number units)) }
+{
+    // The laws by which the point ends the integer part.
+    foreign_bytes();
+    complete_by_partial();
+    if count != format.places() || count == 0 || count > 7 {
+        return None;
+    }
+    if format.integer().required_mantissa_sign() {
+        return None;
+    }
+    let (is_negative, digits) = behind_minus::<T>(text);
+    let size = digits.len();
+    if size < 4 || size < count + 2 || size > 16 {
+        return None;
+    }
+    let place = size - 1 - count;
+    if !keeps_zero_rule(digits, format.integer(), place) {
+        return None;
+    }
+    value_around_point::<T>(digits, format.integer(), place, is_negative)
+}
+
 // What the text stands for, with `count` bytes behind the point that ends its integer part.
 #[inline(never)]
 fn read_by_point<T: Integer>(text: &[u8], format: &FixedFormat, count: usize) -> Result<T>
@@ -97,6 +141,9 @@ fn read_by_point<T: Integer>(text: &[u8], format: &FixedFormat, count: usize) ->
     requires parted { IsParted format.now text.now count }
     ensures { view_of T.number result ≡ complete_fixed format.now T.TYPE text.now }
 {
+    if let Some(units) = units_by_words::<T>(text, format, count) {
+        return Ok(units);
+    }
     // The laws by which the point ends the integer part, and by which a fault before it is known.
     foreign_bytes();
     complete_by_partial();

@@ -91,3 +91,20 @@ pub(crate) fn numbers_without(text: &[u8], place: usize) -> Option<(u32, u32)>
     };
     Some((high, low))
 }
+
+// The number of the digits of a text around the byte at a place and the one four before it.
+#[inline(always)]
+pub(crate) fn number_between(text: &[u8], place: usize) -> Option<u32>
+    requires few { length text.now ≤ 8 }
+    requires before { 5 ≤ place }
+    requires within { place < length text.now }
+    ensures joined { IfSome result (IsJoined (without (place - 4) (without place text.now))) }
+    ensures small { IfSome result (λ number. number < 100000000) }
+{
+    let joined = word_without(word_without(word_of(text), place), place - 4);
+    let digits = behind_zeros(joined, text.len() - 2);
+    if !is_8digits(digits, 10) {
+        return None;
+    }
+    Some(parse_8digits(digits, 10) as u32)
+}

@@ -3,6 +3,7 @@
 
 mod api;
 mod append;
+mod around;
 mod by_point;
 pub mod error;
 pub mod format;

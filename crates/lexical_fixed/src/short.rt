@@ -109,7 +109,7 @@ fn value_of_3<T: Integer>(digits: &[u8], is_negative: bool) -> Option<T>
 // The value of the digits of four to sixteen bytes but for the byte at `place`, which is among the
 // last eight.
 #[inline(always)]
-fn value_around<T: Integer>(digits: &[u8], place: usize, is_negative: bool) -> Option<T>
+pub(crate) fn value_around<T: Integer>(digits: &[u8], place: usize, is_negative: bool) -> Option<T>
     requires some { 4 ≤ length digits.now }
     requires few { length digits.now ≤ 16 }
     requires behind { length digits.now ≤ place + 8 }

@@ -4,8 +4,9 @@ pub use Rattle.lexical_parse_integer.proofs.grammar.FrontValues.{fitting_fault}
 pub use Rattle.lexical_parse_integer.proofs.grammar.NumeralEnd.{IsStop-end_of, belongs_digit, belongs_other, belongs_separator, digit_at_past, separator_at_past, separator_at_within}
 pub use Rattle.lexical_parse_integer.proofs.grammar.RangeOfFronts.{shorter_fronts_fit, zero_is_number}
 pub use Rattle.lexical_parse_integer.proofs.grammar.Stretches.{HoldsBetween, IsStop, IsStop-stop_of, IsStop-unique, begin_of_is, stop_of_is, true_or_false}
-pub use Rattle.lexical_parse_integer.proofs.punctuated.PunctuatedAnswers.{fits_head, head_signed}
-pub use Rattle.lexical_parse_integer.proofs.plain.DigitsAlone.{behind_is, sign_of_digit_under}
+pub use Rattle.lexical_parse_integer.proofs.punctuated.DigitsAmong.{row_grouped}
+pub use Rattle.lexical_parse_integer.proofs.punctuated.PunctuatedAnswers.{fits_head, groups_read, head_signed}
+pub use Rattle.lexical_parse_integer.proofs.plain.DigitsAlone.{behind_is, sign_of_digit_under, sign_of_minus_under}
 pub use Rattle.lexical_parse_integer.proofs.plain.DigitsByTable.{table_read}
 pub use Rattle.lexical_parse_integer.proofs.plain.DigitsInFront.{begins_read}
 pub use Rattle.lexical_parse_integer.proofs.reading.FormatBytes.{IsFit, fits, fits_named, fits_octal}

@@ -1,10 +1,8 @@
-use Rattle.std.proofs.Common.{◌≡◌, ◌-◌, ◌≤◌, ◌^◌, ℕ, List, arith, length, subst, take}
-use Rattle.std.proofs.Math.Nat.{pow-le-pow_right}
+use Rattle.std.proofs.Common.{◌≡◌, ◌-◌, ℕ, List, arith, length, subst, take}
 use Rattle.std.proofs.lemmas.List.{length-take-le}
 use Rattle.lexical_digits.proofs.WordsInFront.{rest_is}
-use Rattle.lexical_digits.proofs.WordsOfDigits.{digits_below}
 use Rattle.lexical_fixed.specs.Quick.{IsJoined, without}
-use Rattle.lexical_fixed.proofs.JoinedDigits.{parts_joined}
+use Rattle.lexical_fixed.proofs.JoinedDigits.{joined_small, parts_joined}
 use Rattle.lexical_fixed.proofs.LastFractions.{joined_digits}
 use Rattle.lexical_fixed.proofs.joined.numbers_without.Goals as goal
 
@@ -21,6 +19,4 @@ returns-clause-high c =
     let text = c.args.text.now in
     let first = joined_digits _ (take (length text - 8) text) c.in-Some.high c.in-Some.ensures in
     let size : length (take (length text - 8) text) ≡ length text - 8 = length-take-le (length text - 8) text (omega arith) in
-    let few : length (take (length text - 8) text) ≤ 8 = omega (arith, size, c.requires.few) in
-    let power : 10 ^ length (take (length text - 8) text) ≤ 10 ^ 8 = pow-le-pow_right {n = 10} (omega arith) few in
-    omega (arith, digits_below (take (length text - 8) text) c.in-Some.high first.digits first.worth, power)
+    joined_small (take (length text - 8) text) c.in-Some.high (omega (arith, size, c.requires.few)) first

@@ -1,0 +1,185 @@
+-- Short amounts by words: digits around a point, with separators before it, are what the whole text stands for.
+use Rattle.std.proofs.Common.{◌≡◌, ℕ, suc, ◌+◌, ◌-◌, ◌*◌, ◌^◌, ◌≤◌, Bool, true, false, List, [], ◌∷◌, ◌++◌, length, take, drop, Option, Some, None, IsNone, is_some, Ok, refl, sym, ap, subst, ◌∙◌, arith}
+use Rattle.std.proofs.Math.IntN.{ℤ}
+use Rattle.std.proofs.lemmas.Bool.Decides.{nat_tests}
+use Rattle.std.proofs.Math.Nat.{one-le-pow, mul-le-mul_left}
+use Rattle.std.proofs.lemmas.List.{take_all}
+use Rattle.std.proofs.lemmas.List.Elements.{filter_map-append}
+use Rattle.std.specs.Prelude.{◌==◌, IfSome, slice_range}
+use mir.Val.{bool_byte}
+use Rattle.lexical_util.specs.Digit.{digit}
+use Rattle.lexical_util.specs.Format.{Format}
+use Rattle.lexical_util.specs.Number.{HasSign, IntegerType, IsNumber, is_number}
+use Rattle.lexical_util.specs.Validity.{fault}
+use Rattle.lexical_digits.specs.Value.{positional_value, with_sign}
+use Rattle.lexical_digits.specs.Words.{AreDigits, word_value}
+use Rattle.lexical_digits.proofs.DigitValues.{positional_value-append, with_sign-step}
+use Rattle.lexical_parse_integer.specs.Fronts.{number_in_front}
+use Rattle.lexical_parse_integer.specs.Grammar.{complete, partial}
+use Rattle.lexical_parse_integer.specs.Laws.{Completes}
+use Rattle.lexical_parse_integer.specs.Grouped.{AreGrouped, AreWorth, digits_among}
+use Rattle.lexical_parse_integer.specs.Head.{sign}
+use Rattle.lexical_parse_integer.specs.Plain.{IsBehind, keeps_zero_rule}
+use Rattle.lexical_parse_integer.proofs.ForCallers.{fits, groups_read, head_is, sign_of_digit_under, sign_of_minus_under}
+use Rattle.lexical_fixed.specs.Append.{IsAppended}
+use Rattle.lexical_fixed.specs.Around.{IsValueAround}
+use Rattle.lexical_fixed.specs.Fixed.{Fixed}
+use Rattle.lexical_fixed.specs.Fraction.{read_zeros, with_digits}
+use Rattle.lexical_fixed.specs.Grammar.{complete_fixed, is_negative}
+use Rattle.lexical_fixed.specs.Parted.{IsParted, point_place}
+use Rattle.lexical_fixed.specs.Validity.{fixed_fault}
+use Rattle.lexical_fixed.proofs.Appended.{appended_sign}
+use Rattle.lexical_fixed.proofs.AroundPoint.{among_digits, among_length}
+use Rattle.lexical_fixed.proofs.Digits.{is_number-below}
+use Rattle.lexical_fixed.proofs.LastPoints.{SameBehind, part_is, part_sign, parted_units, whole_is}
+use Rattle.lexical_fixed.proofs.QuickDigits.{no_zeros}
+use Rattle.lexical_fixed.proofs.ShortNumbers.{behind_drop, behind_length}
+use Rattle.lexical_fixed.proofs.Valid.{integer_valid}
+use Rattle.lexical_fixed.proofs.QuickParts.{IsDecimal, decimal_of}
+
+-- ---- the integer part
+
+-- a byte that is a digit has a value
+value_there : (c : ℕ) → is_some (digit 10 c) ≡ true → (d : ℕ) × (digit 10 c ≡ Some d)
+value_there c some = by_digit (digit 10 c) refl some
+  where
+    by_digit : (o : Option ℕ) → digit 10 c ≡ o → is_some o ≡ true → (d : ℕ) × (digit 10 c ≡ Some d)
+    by_digit None is some = cc
+    by_digit (Some d) is some = (d, is)
+
+-- digits with separators between them, behind a minus or none, are read as a whole
+whole_groups : (f : Format) (t : IntegerType) (b : Bool) (text part : List ℕ) (value : ℤ) → IsNone (fault f) → IsDecimal f → f.required_mantissa_sign ≡ false
+    → IsBehind b t text part → AreGrouped f 10 part → keeps_zero_rule f part ≡ true → AreWorth t 10 b part value → complete f t text ≡ Ok value
+whole_groups f t b text [] value valid decimal unasked behind grouped rule worth = let some = grouped.some in absurd (omega arith)
+whole_groups f t false text (c ∷ cs) value valid decimal unasked behind grouped rule worth =
+    let part : List ℕ = c ∷ cs in
+    let first = value_there c grouped.first in
+    let signed : sign f t part ≡ Ok (false, 0) = sign_of_digit_under f t 10 c first.0 cs unasked first.1 in
+    let size : length part - 0 ≡ length part = omega arith in
+    let all : slice_range part 0 (length part) ≡ part = ap (λ n. take n part) size ∙ take_all (length part) part (omega arith) in
+    ap (complete f t) behind
+    ∙ groups_read f t part _ value 10 valid (head_is f t part (false, 0) decimal.no_prefix decimal.no_literals decimal.no_octal_zeros signed) decimal.radix (omega arith)
+    (ap (keeps_zero_rule f) all ∙ rule)
+    (subst (λ (bs : List ℕ). AreGrouped f 10 bs) (sym all) grouped)
+    (subst (λ (bs : List ℕ). AreWorth t 10 false bs value) (sym all) worth)
+whole_groups f t true text (c ∷ cs) value valid decimal unasked behind grouped rule worth =
+    let part : List ℕ = c ∷ cs in
+    let signed : sign f t (45 ∷ part) ≡ Ok (true, 1) = sign_of_minus_under f t part behind.1 in
+    let all : slice_range (45 ∷ part) 1 (length (45 ∷ part)) ≡ part = take_all _ part (omega arith) in
+    ap (complete f t) behind.0
+    ∙ groups_read f t (45 ∷ part) _ value 10 valid (head_is f t (45 ∷ part) (true, 1) decimal.no_prefix decimal.no_literals decimal.no_octal_zeros signed) decimal.radix (omega arith)
+    (ap (keeps_zero_rule f) all ∙ rule)
+    (subst (λ (bs : List ℕ). AreGrouped f 10 bs) (sym all) grouped)
+    (subst (λ (bs : List ℕ). AreWorth t 10 true bs value) (sym all) worth)
+
+-- ---- the number
+
+among_joined : (xs ys : List ℕ) → digits_among 10 (xs ++ ys) ≡ digits_among 10 xs ++ digits_among 10 ys
+among_joined xs ys = filter_map-append (λ byte. digit 10 byte) xs ys
+
+-- ---- the number
+
+-- What is known of a short amount: the point stands at `place` of what stands behind a minus or none.
+pub record IsShortAmount (f : Fixed) (t : IntegerType) (b : Bool) (text bytes : List ℕ) (place count : ℕ) : Type 0 where
+  pub behind : IsBehind b t text bytes
+  pub minus : b ≡ is_negative t text
+  pub size : length bytes ≡ place + 1 + count
+  pub before : 1 ≤ place
+  pub some : 1 ≤ count
+  pub all : count ≡ f.places
+  pub unasked : f.integer.required_mantissa_sign ≡ false
+  pub rule : keeps_zero_rule f.integer (take place bytes) ≡ true
+
+module _ (f : Fixed) (t : IntegerType) (b : Bool) (text bytes : List ℕ) (place count : ℕ) (v : ℤ) (m : IsShortAmount f t b text bytes place count)
+    (a : IsValueAround t b f.integer place bytes v) where
+  abbrev part : List ℕ
+  part = take place bytes
+
+  abbrev rest : List ℕ
+  rest = drop (place + 1) bytes
+
+  abbrev worth : ℕ
+  worth = positional_value 10 (digits_among 10 part)
+
+  abbrev whole : ℤ
+  whole = with_sign b worth
+
+  -- the number is that of the digits before the point, and of those behind it
+  sum : a.number ≡ worth * 10 ^ length rest + word_value 10 rest
+  sum =
+      let values = among_digits rest a.around.fraction in
+      let long = among_length rest a.around.fraction in
+      a.around.worth ∙ ap (positional_value 10) (among_joined part rest) ∙ positional_value-append 10 (digits_among 10 part) (digits_among 10 rest)
+      ∙ ap (λ n. worth * 10 ^ n + positional_value 10 (digits_among 10 rest)) long
+      ∙ ap (λ ds. worth * 10 ^ length rest + positional_value 10 ds) values
+
+  appended : v ≡ with_digits b whole rest
+  unfolding with_digits
+  appended = a.worth ∙ ap (with_sign b) sum ∙ sym (with_sign-step b worth (10 ^ length rest) (word_value 10 rest))
+
+  part_fits : IsNumber t whole
+  part_fits =
+      let total = sum in
+      let one : 1 ≤ 10 ^ length rest = one-le-pow (length rest) 10 (omega arith) in
+      let up : worth * 1 ≤ worth * 10 ^ length rest = mul-le-mul_left worth one in
+      let below : worth ≤ a.number = omega arith in
+      is_number-below t b worth a.number below (ap (is_number t) (sym a.worth) ∙ a.fits)
+
+  -- where the point stands in the text
+  stands : point_place text count ≡ bool_byte b + place
+  stands =
+      let size = behind_length b t text bytes m.behind in
+      let some : (count == 0) ≡ false = (let s = m.some in grind (arith, nat_tests)) in
+      rw some (omega (arith, size, m.size))
+
+  before_is : IsBehind b t (take (point_place text count) text) part
+  before_is = subst (λ k. IsBehind b t (take k text) part) (sym stands) (taken b m.behind)
+    where
+      taken : (b : Bool) → IsBehind b t text bytes → IsBehind b t (take (bool_byte b + place) text) part
+      taken false same = let e : 0 + place ≡ place = omega arith in ap (λ k. take k text) e ∙ ap (take place) same
+      taken true same = let e : 1 + place ≡ suc place = omega arith in (ap (λ k. take k text) e ∙ ap (take (suc place)) same.0, same.1)
+
+  behind_is : drop (length text - count) text ≡ rest
+  behind_is =
+      let size = behind_length b t text bytes m.behind in
+      let here : length text - count ≡ bool_byte b + (place + 1) = omega (arith, size, m.size) in
+      ap (λ k. drop k text) here ∙ behind_drop b t text bytes (place + 1) m.behind
+
+  -- so the whole text stands for it
+  pub short_amount : SameBehind partial → SameBehind number_in_front → ((format : Format) (type : IntegerType) (bs : List ℕ) → Completes (length bs) (complete format type bs) (partial format type bs))
+      → IsNone (fixed_fault f) → digit 36 f.point ≡ None → IsParted f text count → complete_fixed f t text ≡ Ok v
+  short_amount front number completes valid letter at =
+      let decimal = decimal_of f valid in
+      let read : complete f.integer t (take (point_place text count) text) ≡ Ok whole =
+      whole_groups f.integer t b _ part whole (integer_valid f valid) decimal m.unasked before_is a.around.part m.rule (record { worth = refl; fits = part_fits }) in
+      let is = part_is f t text count front number valid letter at completes whole read in
+      let minus = m.minus in
+      let held : HasSign (is_negative t text) whole = part_sign f.integer t text whole _ is in
+      let more : IsAppended t (is_negative t text) whole (drop (length text - count) text) v = record {
+        digits = subst (λ (bs : List ℕ). AreDigits 10 bs) (sym behind_is) a.around.fraction;
+        worth = appended ∙ ap (λ c. with_digits c whole rest) minus ∙ ap (with_digits (is_negative t text) whole) (sym behind_is);
+        fits = λ some. a.fits;
+      } in
+      let signed = appended_sign t (is_negative t text) whole _ v held more in
+      let none : f.places - count ≡ 0 = let all = m.all in omega arith in
+      let zeros = no_zeros t (is_negative t text) v (length text) signed in
+      sym (whole_is f t text whole _ is)
+      ∙ parted_units f t text count whole v v at held more (sym (ap (λ k. read_zeros t (is_negative t text) v k (length text)) none ∙ rw (zeros.0, zeros.1) refl))
+
+-- the separator of a valid description is no digit
+pub separator_no_digit : (f : Fixed) → IsNone (fixed_fault f) → IfSome f.integer.digit_separator (λ byte. digit 10 byte ≡ None)
+separator_no_digit f valid = by_byte f.integer.digit_separator refl
+  where
+    by_byte : (o : Option ℕ) → f.integer.digit_separator ≡ o → IfSome o (λ byte. digit 10 byte ≡ None)
+    by_byte None is = tt
+    by_byte (Some byte) is = ap (λ r. digit r byte) (sym (decimal_of f valid).radix) ∙ (fits f.integer (integer_valid f valid)).separator byte is
+
+-- what is found is what the whole text stands for
+pub short_amounts : {V : Type 0} (number_of : V → ℤ) (f : Fixed) (t : IntegerType) (b : Bool) (text bytes : List ℕ) (place count : ℕ) (found : Option V)
+    → IsShortAmount f t b text bytes place count → SameBehind partial → SameBehind number_in_front
+    → ((format : Format) (type : IntegerType) (bs : List ℕ) → Completes (length bs) (complete format type bs) (partial format type bs))
+    → IsNone (fixed_fault f) → digit 36 f.point ≡ None → IsParted f text count
+    → IfSome found (λ v. IsValueAround t b f.integer place bytes (number_of v)) → IfSome found (λ v. complete_fixed f t text ≡ Ok (number_of v))
+short_amounts number_of f t b text bytes place count None m front number completes valid letter at a = tt
+short_amounts number_of f t b text bytes place count (Some v) m front number completes valid letter at a =
+    short_amount f t b text bytes place count (number_of v) m a front number completes valid letter at

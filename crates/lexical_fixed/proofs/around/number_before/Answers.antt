@@ -1,0 +1,40 @@
+use Rattle.std.proofs.Common.{◌≡◌, ℕ, ◌-◌, IfSome, None, Option, arith, length, refl, subst}
+use Rattle.std.proofs.lemmas.Option.{IfSome_then}
+use Rattle.lexical_util.specs.Digit.{digit}
+use Rattle.lexical_fixed.proofs.AroundPoint.{digits_grouped, joined_worth, separated_worth, separator_grouped}
+use Rattle.lexical_fixed.proofs.JoinedDigits.{joined_small}
+use Rattle.lexical_fixed.proofs.LastFractions.{joined_digits}
+use Rattle.lexical_fixed.proofs.around.number_before.Goals as goal
+
+pub returns-then-is_between-clause-grouped : goal.returns-then-is_between-clause-grouped
+returns-then-is_between-clause-grouped c =
+    let bytes = c.args.bytes.now in
+    let place = length bytes - 1 - c.args.count in
+    IfSome_then c.number_without.result c.number_without.ensures.joined
+    (λ number joined. separator_grouped c.args.format.now place bytes (c.if-is_between.ensures.separator refl) (c.if-is_between.ensures.internal refl)
+    (omega (arith, c.if-count-size.true)) (omega (arith, c.requires.count, c.if-count-size.true)) joined.digits)
+
+pub returns-then-is_between-clause-worth : goal.returns-then-is_between-clause-worth
+returns-then-is_between-clause-worth c =
+    let bytes = c.args.bytes.now in
+    let place = length bytes - 1 - c.args.count in
+    let none = subst (λ (o : Option ℕ). IfSome o (λ byte. digit 10 byte ≡ None)) (c.if-is_between.ensures.separator refl) c.requires.no_digit in
+    IfSome_then c.number_without.result c.number_without.ensures.joined
+    (λ number joined. separated_worth place bytes number (omega (arith, c.if-count-size.true)) none joined)
+
+pub returns-clause-grouped : goal.returns-clause-grouped
+returns-clause-grouped c =
+    let bytes = c.args.bytes.now in
+    IfSome_then c.value_to_16.result c.value_to_16.ensures
+    (λ number stands. digits_grouped c.args.format.now bytes c.requires.some (joined_digits _ bytes number stands).digits)
+
+pub returns-clause-worth : goal.returns-clause-worth
+returns-clause-worth c =
+    let bytes = c.args.bytes.now in
+    IfSome_then c.value_to_16.result c.value_to_16.ensures (λ number stands. joined_worth bytes number (joined_digits _ bytes number stands))
+
+pub returns-clause-small : goal.returns-clause-small
+returns-clause-small c =
+    let bytes = c.args.bytes.now in
+    IfSome_then c.value_to_16.result c.value_to_16.ensures
+    (λ number stands. joined_small bytes number c.requires.few (joined_digits _ bytes number stands))
