@@ -77,8 +77,6 @@ whole_groups f t true text (c ∷ cs) value valid decimal unasked behind grouped
 among_joined : (xs ys : List ℕ) → digits_among 10 (xs ++ ys) ≡ digits_among 10 xs ++ digits_among 10 ys
 among_joined xs ys = filter_map-append (λ byte. digit 10 byte) xs ys
 
--- ---- the number
-
 -- What is known of a short amount: the point stands at `place` of what stands behind a minus or none.
 pub record IsShortAmount (f : Fixed) (t : IntegerType) (b : Bool) (text bytes : List ℕ) (place count : ℕ) : Type 0 where
   pub behind : IsBehind b t text bytes

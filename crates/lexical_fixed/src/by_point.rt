@@ -1,5 +1,5 @@
-// Whole texts by their last point. The bytes before it are read as a whole number under the integer part's format, which may have
-// a separator, or rules on zeros and signs. A fault in them is that of the text.
+// Whole texts by their last point: short ones by words. Of others the bytes before the point are read as a whole number under the
+// integer part's format, which may have a separator, or rules on zeros and signs. A fault in them is that of the text.
 ghost use Rattle.std.specs.Prelude.{◌≡◌, ◌≤◌, IfSome, IsNone, IsTrue, None, Ok, length, take, true};
 ghost use Rattle.lexical_util.specs.Digit.{digit};
 ghost use Rattle.lexical_util.specs.Number.{HasSign};
