@@ -8,7 +8,7 @@ COUNTED := crates/calls/out/calls
 SOURCES = $(shell find crates/$(1) crates/answer_lines crates/lexical_* -name out -prune -o -type f \( -name '*.rt' -o -name '*.antt' \) -print) crates.txt
 
 .PHONY: help toolchain run check test devices answers lexint jad install uninstall install-programs uninstall-programs rows
-.PHONY: docs check-dist dist test-dist tag vendor check-docs check-languages bench calls must-not-compile fuzz fuzz-edges fuzz-tables
+.PHONY: docs check-dist dist test-dist tag vendor check-docs check-languages bench calls must-not-compile fuzz fuzz-edges fuzz-tables fuzz-fixed
 
 # A target is listed by the words after its two number signs.
 help:
@@ -112,6 +112,12 @@ TABLES ?=
 
 fuzz-tables: $(LIBRARIES) ## compares tables read by the C call with a slow reader: random ones, or all short texts
 	@CC=$(CC) tests/tables/compare.py $(TABLES)
+
+# How many texts, and a seed: make fuzz-fixed FIXED="1000000 7".
+FIXED ?=
+
+fuzz-fixed: build/libjadvolni.so ## compares amounts read by the C calls with Python's decimal: random ones, and all short texts
+	@python3 tests/fixed/fuzz.py build/libjadvolni.so $(FIXED)
 
 # Options of bench/run.py: make bench BENCH="--rounds 50 --no-counts".
 BENCH ?=

@@ -707,14 +707,20 @@ uint32_t jadvolni_fixed_error(const jadvolni_fixed *fixed) JADVOLNI_PURE_ JADVOL
  *
  *     JADVOLNI_OVERFLOW, JADVOLNI_UNDERFLOW  at the digit at which the number leaves the type; if only
  *                             zeros that aren't written make it leave the type, where reading stops.
- *     JADVOLNI_INVALID_DIGIT  at the first byte that isn't allowed: the digit after the last place, the
- *                             byte after a point that no digit follows, a point if `places` is 0.
- *     JADVOLNI_EMPTY          where a digit is missing: at the end of "12.", and where there are fewer
- *                             digits than required.
+ *     JADVOLNI_INVALID_DIGIT  at the digit after the last place, or, if `places` is 0, at a point before a
+ *                             digit; without `_front` also at any other byte that isn't allowed, such as
+ *                             the byte after a point that no digit follows.
+ *     JADVOLNI_EMPTY          where a digit is missing: at the end of "12.", and, if all places are
+ *                             required, at the end of "12.5"; with `_front` also before another byte.
  *
- * If fewer places are accepted, `_front` reads 12 from "12. And", and stops at 2. So if more bytes may
- * come, a result at a point that ends the text isn't final either: "12." stops at 2, and may continue as
- * "12.5". Everything else is as the head of this file says.
+ * If fewer places are accepted, `_front` reads "12. And" as 1200, and stops at 2. So if more bytes may
+ * come, a result before a point or separators that end the text isn't final either: "12." stops at 2, and
+ * may continue as "12.5".
+ *
+ * ".5" is JADVOLNI_INVALID_DIGIT at 0, with `_front` JADVOLNI_EMPTY at 0. To read it, set
+ * `integer.mantissa_radix` to 10 and leave `integer.required_mantissa_digits` 0; then `_front` of "x" is 0
+ * at 0. Groups may have any size: with "," between digits, "1,2,3.50" is 12350. Everything else is as the
+ * head of this file says.
  */
 #define JADVOLNI_FIXED_(name, type)                                                            \
     jadvolni_result jadvolni_parse_##name##_fixed(const char *text, size_t len,                \

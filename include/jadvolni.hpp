@@ -363,8 +363,8 @@ template <class T>
 }
 
 // Reads the fixed-point number at the beginning of the text as a T. Its place() is where reading stopped. If more bytes
-// may come, a result at the text's end isn't final, nor is one at a point that ends the text: "12." may continue as
-// "12.5".
+// may come, a result at the text's end isn't final, nor is one before a point or separators that end the text: "12." may
+// continue as "12.5".
 template <class T>
 [[nodiscard]] result<T> parse_fixed_front(std::string_view text, const fixed &under) noexcept
 {

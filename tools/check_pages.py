@@ -12,7 +12,8 @@
 - A `call: clause` in backquotes has to name a clause of a function.
 - A run of the program over what `printf` gives it has to answer as the reference of the grammar
   does.
-- A figure in a list of README has to stand on the page that its line links to.
+- A figure in a list of README has to stand on the page that its line links to, and a number of
+  mutants is how many `.edit` files there are.
 - A page has at most as many words as BUDGETS says, and those of BUDGETS have at most MOST_WORDS
   together. What a tool takes from the source or compares with it (blocks, test vectors) and what a
   measurement writes doesn't count. `tools/documents.py --words` prints the counts.
@@ -205,6 +206,13 @@ def wrong_figures(text: str, pages: dict[str, str]) -> list[str]:
     return found
 
 
+def wrong_mutants(page: str, text: str, files: set[str]) -> list[str]:
+    """The numbers of mutants that aren't how many edits the prover has to reject."""
+    there = sum(name.endswith(".edit") for name in files)
+    return [f"{page}: {said} mutants, and there are {there} edits"
+            for said in re.findall(r"(\d+) mutants", text) if int(said) != there]
+
+
 def too_long(words: dict[str, int]) -> list[str]:
     """The pages with too many words, and those of docs/ without a number in BUDGETS."""
     found = []
@@ -249,6 +257,7 @@ def faults(pages: dict[str, str], names: list[str], words: set[str],
             found += wrong_names(page, text, files) + wrong_functions(page, text, words)
             found += wrong_definitions(page, text, files) if page.startswith("crates/") else []
             found += wrong_clauses(page, text, clauses) + wrong_runs(page, text)
+            found += wrong_mutants(page, text, files)
     found += wrong_figures(pages.get("README.md", ""), pages)
     return found + too_long(counts_of(pages))
 

@@ -243,7 +243,7 @@ class OfPages(unittest.TestCase):
         wrong = ["[a](docs/GONE.md)", "[a](docs/GUIDE.md#gone)", "[a](#gone)", "`src/gone.rt`",
                  "`make src/gone.rt`", "`gone/`", "`half_of` and `third_of`",
                  "- 7,00 [halves](docs/GUIDE.md)\n", "`half_of: low` and `half_of: high`",
-                 "word " * check_pages.BUDGETS["README.md"]]
+                 "7 mutants", "word " * check_pages.BUDGETS["README.md"]]
         for text in wrong:
             self.assertEqual(len(self.faults(GOOD_PAGE + text)), 1, text[:40])
         self.assertEqual(len(self.faults(GOOD_PAGE.replace("ok 7", "ok 8"))), 1)

@@ -165,7 +165,8 @@ static PyMethodDef METHODS[] = {
          "be the type.\n\n"
          "If no digit was read, ParseError has the place where reading stopped. If more bytes\n"
          "may come, a result at the text's end isn't final: 12 may continue as 123. Of a Fixed,\n"
-         "neither is one at a point that ends the text: 12. may continue as 12.5."),
+         "neither is one before a point or separators that end the text: 12. may continue as\n"
+         "12.5."),
     CALL(parse_partial,
          "parse_partial(text, type=\"i64\", format=None)\n--\n\n"
          "As parse_front, but digits may be missing.\n\n"

@@ -295,9 +295,7 @@ pub fn fixed_front<T: Integer, S: Slot<T>>(
     }
 }
 
-/// 0 where the description is valid, and else the status of the first rule that it breaks.
-///
-/// A reserved byte or bit that isn't 0 is reported first, by status 64.
+/// 64 if a reserved byte or bit isn't 0; otherwise the status of the first rule that the description breaks, or 0.
 #[unsafe(no_mangle)]
 pub extern "C" fn jadvolni_fixed_error(fixed: &FixedFields) -> u32
     ensures { result ≡ fixed_format_status fixed.now }

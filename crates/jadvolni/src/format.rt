@@ -379,9 +379,7 @@ impl FormatFields {
     }
 }
 
-/// 0 where the format is valid, and else the status of the first rule that it breaks.
-///
-/// A reserved byte or bit that isn't 0 is reported first, by status 64.
+/// 64 if a reserved byte or bit isn't 0; otherwise the status of the first rule that the format breaks, or 0.
 #[unsafe(no_mangle)]
 pub extern "C" fn jadvolni_format_error(format: &FormatFields) -> u32
     ensures { result ≡ format_status format.now }

@@ -120,12 +120,12 @@ if_fixed (Some error) answer = Err (InFormat error)
 if_fixed None (Ok value) = Ok value
 if_fixed None (Err error) = Err (InText error)
 
--- what the whole text stands for, where the description is valid
+-- what the whole text stands for, or the description's fault
 abbrev pub complete_if_fixed : Fixed → IntegerType → List ℕ → Result ℤ FixedError
 complete_if_fixed fixed type text =
     if_fixed (fixed_fault fixed) (complete_fixed fixed type text)
 
--- what the front of the text stands for, where the description is valid
+-- what the front of the text stands for, or the description's fault
 abbrev pub partial_if_fixed : Fixed → IntegerType → List ℕ → Result (ℤ × ℕ) FixedError
 partial_if_fixed fixed type text =
     if_fixed (fixed_fault fixed) (partial_fixed fixed type text)

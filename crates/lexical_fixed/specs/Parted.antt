@@ -8,8 +8,8 @@ use Rattle.lexical_parse_integer.specs.Runs.{are_same}
 use Rattle.lexical_fixed.specs.Append.{IsAppended}
 use Rattle.lexical_fixed.specs.Fixed.{Fixed}
 
--- `count` bytes stand behind the point and at least one before it, or `count` is 0 and there is no
--- point. `count` is the number of places, or less where the description takes fewer.
+-- `count` bytes stand behind the point and at least one before it, or `count` is 0. It is the number
+-- of places, or less where the description takes fewer.
 pub record IsParted (fixed : Fixed) (bytes : List ℕ) (count : ℕ) : Type 0 where
   pub some : 1 ≤ length bytes
   pub room : count ≤ fixed.places

@@ -60,13 +60,12 @@ pub trait FromFixed: ParseFixed {
     /// The value is exact, and nothing is rounded. A fault has a place, which counts bytes from 0, and is the first
     /// from left to right:
     ///
-    /// - what the format of the integer part says of its sign, its zeros and its digits: `InvalidPositiveSign`,
-    ///   `MissingSign`, `InvalidLeadingZeros`;
+    /// - what the format of the integer part forbids: `InvalidPositiveSign`, `MissingSign`, `InvalidLeadingZeros`;
     /// - `Overflow` or `Underflow` at the digit with which the number of the digits so far leaves the type;
-    /// - `InvalidDigit` at the first byte that can't stand: the digit behind the last place in `12.505`, the byte behind
-    ///   a point without a digit in `12.x`, a point where there are no places;
-    /// - `Empty` at the text's end where a digit is missing: behind the point in `12.`, or where the description asks for
-    ///   more digits than there are;
+    /// - `InvalidDigit` at the first byte that isn't allowed: the digit after the last place in `12.505`, the byte after
+    ///   a point without a digit in `12.x`, a point if there are no places;
+    /// - `Empty` at the text's end if a digit is missing: after the point in `12.`, or if the description requires more
+    ///   digits than there are;
     /// - `Overflow` or `Underflow` at the text's end, where only the zeros that aren't written take the number out of
     ///   the type: with two places `3` as a `u8` is 300.
     ///
@@ -89,8 +88,8 @@ pub trait FromFixed: ParseFixed {
     /// Of `12.50 EUR` with two places the answer is 1250 and 5. A number isn't cut: in `12.505` the digit behind the last
     /// place is `InvalidDigit(5)`, and without places the point of `12.5` is `InvalidDigit(2)`. Where fewer places are
     /// taken, a point without a digit behind it isn't read: `12. And` is 1200 and 2. So is `12.`, which isn't final if
-    /// more text may come: `12.50` may follow. Where all are asked for, `Empty` has the place where a digit is missing.
-    /// So it does in front of a text without digits, unless the format of the integer part needs none.
+    /// more text may come: `12.50` may follow. If all are required, `Empty` has the place where a digit is missing. So it
+    /// does if the integer part has no digit, unless its format needs none.
     fn from_fixed_partial(
         bytes: &[u8],
         format: &FixedFormat,

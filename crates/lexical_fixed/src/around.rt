@@ -7,7 +7,7 @@ ghost use Rattle.lexical_parse_integer.specs.Grouped.{AreGrouped, digits_among};
 ghost use Rattle.lexical_fixed.specs.Around.{IsAround, IsValueAround};
 ghost use Rattle.lexical_fixed.specs.Quick.{without};
 
-use crate::joined::{number_between, number_without};
+use crate::joined::{number_without, number_without_two};
 use crate::short::value_around;
 use lexical_digits::values::{value_of_parts, value_to_8, value_to_16};
 use lexical_util::format::NumberFormat;
@@ -22,7 +22,7 @@ fn is_between(format: &NumberFormat, byte: u8) -> bool
     format.digit_separator() == Some(byte) && format.integer_internal_digit_separator()
 }
 
-// The number of the digits around a point in up to eight bytes, where a separator stands in front of the three before it.
+// The number of the digits around a point in up to eight bytes, with a separator in front of the three digits before the point.
 #[inline(always)]
 fn number_in_groups(bytes: &[u8], format: &NumberFormat, place: usize) -> Option<u32>
     requires few { length bytes.now ≤ 8 }
@@ -36,15 +36,15 @@ fn number_in_groups(bytes: &[u8], format: &NumberFormat, place: usize) -> Option
         (λ number. length (digits_among 10 (without place bytes.now)) ≡ length bytes.now - 2) }
     ensures small { IfSome result (λ number. number < 100000000) }
 {
-    number_between(bytes, place)
+    number_without_two(bytes, place)
 }
 
-// The number of one to eight bytes that are digits, or digits around a separator that stands before the last `count` of them.
+// The number of one to eight bytes that are digits, or digits around a separator that stands before the last `tail` of them.
 #[inline(always)]
-fn number_before(bytes: &[u8], format: &NumberFormat, count: usize) -> Option<u32>
+fn number_before(bytes: &[u8], format: &NumberFormat, tail: usize) -> Option<u32>
     requires some { 1 ≤ length bytes.now }
     requires few { length bytes.now ≤ 8 }
-    requires count { 1 ≤ count }
+    requires tail { 1 ≤ tail }
     requires no_digit { IfSome format.now.digit_separator (λ byte. digit 10 byte ≡ None) }
     ensures grouped { IfSome result (λ number. AreGrouped format.now 10 bytes.now) }
     ensures worth { IfSome result
@@ -52,8 +52,8 @@ fn number_before(bytes: &[u8], format: &NumberFormat, count: usize) -> Option<u3
     ensures small { IfSome result (λ number. number < 100000000) }
 {
     let size = bytes.len();
-    if size >= 4 && count < size - 1 {
-        let place = size - 1 - count;
+    if size >= 4 && tail < size - 1 {
+        let place = size - 1 - tail;
         if is_between(format, bytes[place]) {
             return number_without(bytes, place);
         }
@@ -77,13 +77,15 @@ fn numbers_in_groups(bytes: &[u8], format: &NumberFormat, place: usize) -> Optio
     ensures high { IfSome result (λ found. found.0 < 100000000) }
     ensures low { IfSome result (λ found. found.1 < 100000000) }
 {
+    // The last eight bytes hold the point, its places, which are one or two, three digits, the separator, and so many digits of the
+    // next group that as many as there are places end the first part.
     let first = bytes.len() - 8;
     let high = number_before(&bytes[..first], format, bytes.len() - 1 - place)?;
     let low = number_in_groups(&bytes[first..], format, place - first)?;
     Some((high, low))
 }
 
-// The value of the digits around a point in up to sixteen bytes, where a separator stands in front of the three before it.
+// The value of the digits around a point in up to sixteen bytes, with a separator in front of the three digits before the point.
 #[inline(always)]
 fn value_in_groups<T: Integer>(
     bytes: &[u8],

@@ -102,7 +102,8 @@ fn keeps_zero_rule(bytes: &[u8], format: &NumberFormat, count: usize) -> bool
     !format.no_integer_leading_zeros() || count == 1 || bytes[0] != b'0'
 }
 
-// The number of a short text with all places behind its point, which are seven at most: digits alone, or in groups of three.
+// The number of a short text with all places, which are seven at most: of digits alone, or, with one place or two, in groups of
+// three.
 #[inline(always)]
 fn units_by_words<T: Integer>(text: &[u8], format: &FixedFormat, count: usize) -> Option<T>
     requires valid { IsNone (fixed_fault format.now) }

@@ -13,7 +13,7 @@ use std::marker::Model;
 /// answers. The fields are public, so a description may be a constant:
 ///
 /// ```rust
-/// const PERCENT: FixedFormat = FixedFormat { places: 3, ..CENTS };
+/// const THOUSANDTHS: FixedFormat = FixedFormat { places: 3, ..CENTS };
 /// ```
 #[derive(Debug, Copy, Clone, PartialEq, Eq)]
 pub struct FixedFormat {
@@ -29,7 +29,7 @@ pub struct FixedFormat {
     pub takes_fewer: bool,
 
     /// What the integer part may look like: its sign, its separators of groups, its zeros, and whether it needs a digit.
-    /// The separator stands between digits of the integer part alone.
+    /// The separator stands in the integer part alone.
     pub integer: NumberFormat,
 }
 
@@ -100,8 +100,7 @@ impl FixedFormat {
         }
     }
 
-    /// Whether the description is valid and its integer part has neither a separator nor a required sign, as most have
-    /// none: by few tests.
+    /// Whether few tests show that the description is valid: most have neither a separator nor a required sign.
     ///
     /// `false` says nothing of the description.
     #[inline(always)]

@@ -69,8 +69,8 @@ pub(crate) fn number_without(text: &[u8], place: usize) -> Option<u32>
     Some(parse_8digits(digits, 10) as u32)
 }
 
-// The number of the last seven digits of nine to sixteen bytes around the one at a place, which is among the last eight, and of
-// the digits before those.
+// The numbers of the digits before the last eight of nine to sixteen bytes, and of the seven digits among these without the byte
+// at a place.
 #[inline(always)]
 pub(crate) fn numbers_without(text: &[u8], place: usize) -> Option<(u32, u32)>
     requires some { 9 ≤ length text.now }
@@ -94,7 +94,7 @@ pub(crate) fn numbers_without(text: &[u8], place: usize) -> Option<(u32, u32)>
 
 // The number of the digits of a text around the byte at a place and the one four before it.
 #[inline(always)]
-pub(crate) fn number_between(text: &[u8], place: usize) -> Option<u32>
+pub(crate) fn number_without_two(text: &[u8], place: usize) -> Option<u32>
     requires few { length text.now ≤ 8 }
     requires before { 5 ≤ place }
     requires within { place < length text.now }

@@ -225,7 +225,7 @@ pub(crate) fn read_whole<T: Integer>(text: &[u8], format: &FixedFormat) -> Resul
     }
 }
 
-/// The number in front of the text and the place at which reading stops, for a text on which `front_at_once` gave up.
+/// The number in front of the text and the place at which reading stops: best asked after `front_at_once`.
 #[tactic(auto, unfolding(crate::specs::Grammar::partial_fixed))]
 #[inline(never)]
 pub fn partial_if_left<T: Integer>(text: &[u8], format: &FixedFormat) -> Result<(T, usize)>
@@ -238,7 +238,7 @@ pub fn partial_if_left<T: Integer>(text: &[u8], format: &FixedFormat) -> Result<
     }
 }
 
-/// The number that the whole text stands for, for a text on which `value_if_short` gave up.
+/// The number that the whole text stands for: best asked after `value_if_short`.
 #[inline(always)]
 pub fn complete_if_not_short<T: Integer>(text: &[u8], format: &FixedFormat) -> Result<T>
     requires valid { IsNone (fixed_fault format.now) }

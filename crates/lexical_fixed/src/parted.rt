@@ -14,8 +14,8 @@ use lexical_digits::fronts::value_of_digits;
 use lexical_parse_integer::laws::grammar::front_digits;
 use lexical_util::num::Integer;
 
-// How many digits stand behind the point, none where there is no point: as many as there are places, or fewer where the
-// description takes that.
+// How many bytes stand behind the point, the last of them a digit: as many as there are places, or fewer if the description
+// takes that. 0 says that none stands there.
 #[inline(always)]
 pub(crate) fn places_written(digits: &[u8], format: &FixedFormat) -> Option<usize>
     ensures { IfSome result (IsParted format.now digits.now) }

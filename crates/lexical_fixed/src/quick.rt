@@ -114,7 +114,7 @@ pub(crate) fn plain_part<T: Integer>(text: &[u8], format: &FixedFormat) -> Optio
     Some((whole, place))
 }
 
-/// The number in front of the text, and the place at which reading stops.
+/// The number in front of the text, and the place at which reading stops, for most texts. `None` says nothing of the text.
 #[inline(always)]
 pub fn front_at_once<T: Integer>(text: &[u8], format: &FixedFormat) -> Option<(T, usize)>
     requires valid { IsNone (fixed_fault format.now) }

@@ -143,7 +143,7 @@ fn value_by_point<T: Integer>(digits: &[u8], place: usize, is_negative: bool) ->
     value_around::<T>(digits, place, is_negative)
 }
 
-// The value of digits with fewer behind the point than there are places, where the description takes that.
+// The number in units of digits with fewer behind the point than there are places, if the description takes that.
 #[inline(always)]
 pub(crate) fn value_of_fewer<T: Integer>(
     digits: &[u8],
@@ -173,7 +173,7 @@ pub(crate) fn value_of_fewer<T: Integer>(
     None
 }
 
-// The value of up to sixteen digits without a point, where the description takes that.
+// The number in units of up to sixteen digits without a point, if the description takes that.
 #[inline(always)]
 pub(crate) fn value_of_whole<T: Integer>(
     digits: &[u8],
@@ -195,8 +195,8 @@ pub(crate) fn value_of_whole<T: Integer>(
     append_number::<T>(written, 0, format.places(), is_negative)
 }
 
-/// The number that the whole text stands for, where it is three to fifteen digits around a point, behind a minus or none, and
-/// has all places, which are seven at most.
+/// The number that the whole text stands for, for most texts of three to fifteen digits around a point, with all places, which
+/// are seven at most. `None` says nothing of the text.
 #[inline(always)]
 pub fn value_if_short<T: Integer>(text: &[u8], format: &FixedFormat) -> Option<T>
     requires valid { IsNone (fixed_fault format.now) }
@@ -215,8 +215,8 @@ pub fn value_if_short<T: Integer>(text: &[u8], format: &FixedFormat) -> Option<T
     value_around::<T>(digits, place, is_negative)
 }
 
-/// The number that the whole text stands for, where it is two to fifteen digits around a point, behind a minus or none, and has
-/// all places, which are seven at most; or fewer, or none and no point, where the description takes that.
+/// The number that the whole text stands for, for most texts of two to fifteen digits around a point, with all places, which are
+/// seven at most; or with fewer, or without a point, if the description takes that. `None` says nothing of the text.
 #[inline(always)]
 pub fn value_at_once<T: Integer>(text: &[u8], format: &FixedFormat) -> Option<T>
     requires valid { IsNone (fixed_fault format.now) }

@@ -2,8 +2,8 @@
 //!
 //! [`UNKNOWN`] is right for each column: then it is asked at each cell. The code of a type is for a column whose cells are read
 //! under a format without punctuation in radix 10, with [`WITH_BITS`] added where a number may be missing, and
-//! [`WITH_ZERO_RULE`] where the format forbids zeros in front. The codes of types are as many, and in this order, as those from
-//! 0 to 7 to which they are equal in their three lowest bits.
+//! [`WITH_ZERO_RULE`] where the format forbids zeros in front. Its three lowest bits are the type: 0 to 3 for `u8` to `u64`,
+//! and 4 to 7 for `i8` to `i64`.
 
 ghost use Rattle.std.specs.Prelude.{◌≡◌, ◌<◌, ◌≤◌, Some, is_some, map};
 ghost use Rattle.lexical_tables.specs.Cells.{ends_in_digit};

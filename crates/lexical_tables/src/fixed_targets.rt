@@ -66,7 +66,8 @@ pub fn put_fixed<T: ParseFixed>(
 /// last place, if the fast path reads it, and returns whether it did. Otherwise it changes nothing, and says nothing about
 /// them.
 ///
-/// It reads them if they are digits around a point, behind a minus or none, and few of them stand behind the point.
+/// It reads most that are two to fifteen digits around a point, with up to seven behind it, alone or behind a minus; and, if
+/// fewer places are taken, up to sixteen digits without a point.
 ///
 /// It is for a [`TableColumn`](crate::TableColumn) of one's own. The description has to be valid, and the slice has to have
 /// that place.

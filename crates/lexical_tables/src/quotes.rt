@@ -40,8 +40,7 @@ fn marked_length(text: &[u8], separator: u8) -> usize
     split_marked(text, marks, separator).0
 }
 
-// How many they are: by a look at sixteen bytes, as most lines end among these, and then by a loop, which has more to keep. Out of line, since
-// most cells have none.
+// How many bytes, where quotes have a meaning: by a look at sixteen bytes, and then by a loop. Out of line: the loop keeps more.
 #[inline(never)]
 fn quoted_length(text: &[u8], separator: u8) -> usize
     ensures value { result ≡ field_length separator (hidden separator text.now) }

@@ -100,8 +100,8 @@ pub fn parse_fixed<T: Integer>(text: impl AsRef<[u8]>, fixed: &Fixed) -> Result<
 ///
 /// A digit after the last place is a fault. If fewer places are accepted, a point that no digit follows isn't read.
 ///
-/// If more bytes may come, as from a stream, a result at the text's end isn't final, nor is one at a point that ends
-/// the text: `12.` may continue as `12.5`.
+/// If more bytes may come, as from a stream, a result at the text's end isn't final, nor is one before a point or
+/// separators that end the text: `12.` may continue as `12.5`.
 ///
 /// ```
 /// use jadvolni::{parse_fixed_front, Error, Fixed};

@@ -9,18 +9,18 @@ use Rattle.lexical_fixed.proofs.around.number_before.Goals as goal
 pub returns-then-is_between-clause-grouped : goal.returns-then-is_between-clause-grouped
 returns-then-is_between-clause-grouped c =
     let bytes = c.args.bytes.now in
-    let place = length bytes - 1 - c.args.count in
+    let place = length bytes - 1 - c.args.tail in
     IfSome_then c.number_without.result c.number_without.ensures.joined
     (λ number joined. separator_grouped c.args.format.now place bytes (c.if-is_between.ensures.separator refl) (c.if-is_between.ensures.internal refl)
-    (omega (arith, c.if-count-size.true)) (omega (arith, c.requires.count, c.if-count-size.true)) joined.digits)
+    (omega (arith, c.if-tail-size.true)) (omega (arith, c.requires.tail, c.if-tail-size.true)) joined.digits)
 
 pub returns-then-is_between-clause-worth : goal.returns-then-is_between-clause-worth
 returns-then-is_between-clause-worth c =
     let bytes = c.args.bytes.now in
-    let place = length bytes - 1 - c.args.count in
+    let place = length bytes - 1 - c.args.tail in
     let none = subst (λ (o : Option ℕ). IfSome o (λ byte. digit 10 byte ≡ None)) (c.if-is_between.ensures.separator refl) c.requires.no_digit in
     IfSome_then c.number_without.result c.number_without.ensures.joined
-    (λ number joined. separated_worth place bytes number (omega (arith, c.if-count-size.true)) none joined)
+    (λ number joined. separated_worth place bytes number (omega (arith, c.if-tail-size.true)) none joined)
 
 pub returns-clause-grouped : goal.returns-clause-grouped
 returns-clause-grouped c =

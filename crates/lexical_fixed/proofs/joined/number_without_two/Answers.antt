@@ -4,7 +4,7 @@ use Rattle.lexical_digits.specs.Words.{word_bytes}
 use Rattle.lexical_digits.specs.WrittenNumbers.{bytes_number}
 use Rattle.lexical_fixed.specs.Quick.{without}
 use Rattle.lexical_fixed.proofs.JoinedDigits.{all_without, joined_read, twice_without_number, without_length, without_small}
-use Rattle.lexical_fixed.proofs.joined.number_between.Goals as goal
+use Rattle.lexical_fixed.proofs.joined.number_without_two.Goals as goal
 
 pub behind_zeros-digits-requires-clause-bytes : goal.behind_zeros-digits-requires-clause-bytes
 behind_zeros-digits-requires-clause-bytes c =
