@@ -355,7 +355,7 @@ template <class T>
 using fixed = jadvolni_fixed;
 
 // Reads the whole text as a fixed-point number, as a T in units of the last place: "12.50" with two places is 1250.
-// Nothing is rounded.
+// Nothing is rounded. ".5" is read only if the integer part requires no digit.
 template <class T>
 [[nodiscard]] result<T> parse_fixed(std::string_view text, const fixed &under) noexcept
 {

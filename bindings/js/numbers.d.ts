@@ -37,7 +37,7 @@ export interface FormatOption {
  * rounded. With two places "12.50" is 1250, "-0.05" is -5, and "12.505" a fault at its last byte. If
  * `places` is given, amounts are read; otherwise none of the other options is allowed. The format is
  * then that of the integer part: its radix is 10, and it has no prefix, no suffix, and neither literal
- * prefixes nor octal zeros.
+ * prefixes nor octal zeros. ".5" is read only if that format requires no digit.
  *
  * A call with these options throws `FormatError` if they break a rule.
  */

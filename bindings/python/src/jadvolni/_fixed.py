@@ -27,7 +27,8 @@ class Fixed:
         number of digits between two of them isn't checked.
     takes_fewer: Fewer decimal places are accepted, as if zeros followed, and with none the point is
         left out too: "12.5" and "12".
-    format: What the integer part looks like: its sign, separators and leading zeros.
+    format: What the integer part looks like: its sign, separators and leading zeros, and whether it
+        needs a digit: ".5" is read only with Format(required_mantissa_digits=False).
 
     FormatError says which rule is broken first. A description can't be changed.
 

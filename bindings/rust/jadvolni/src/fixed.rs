@@ -34,7 +34,8 @@ impl Fixed {
     }
 
     /// What the integer part looks like: its sign, separators and leading zeros. Its radix is 10, or 0, which means 10
-    /// and a required digit. It has no prefix, no suffix, and neither literal prefixes nor octal zeros.
+    /// and a required digit. It has no prefix, no suffix, and neither literal prefixes nor octal zeros. `.5` is read
+    /// only if it requires no digit.
     #[must_use]
     pub const fn integer(mut self, format: Format) -> Fixed {
         self.0.integer = format.0;
