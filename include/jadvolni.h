@@ -25,8 +25,9 @@
  * the place where it stopped: 0 in "x", and 1 in "+a".
  *
  * IF MORE BYTES MAY COME, as from a stream, a result of `_front` at place `len` isn't final: "12" may
- * continue as "123". Call again with more bytes. A result at an earlier place is final if the format
- * has no separator and the call isn't `_fixed_front`, which says more at its declaration.
+ * continue as "123". Nor, under a format with a separator, is one before separators that end the
+ * text: "1_" may continue as "1_0". Call again with more bytes. Any other is final, except of
+ * `_fixed_front` and jadvolni_parse_typed_literal, which say more at their declarations.
  *
  * DON'T USE `_partial` IF YOU NEED A NUMBER: if other bytes stand where digits should, it usually
  * returns JADVOLNI_OK and 0. Under the standard format "x" is 0 at place 0, and "+a" 0 at place 1.
@@ -45,7 +46,9 @@
  *
  * WHAT A CALL RETURNS
  *
- *     r.status  JADVOLNI_OK, or what is wrong with the text or with the format.
+ *     r.status  JADVOLNI_OK, or what is wrong with the text or with the format. A fault of the format
+ *               comes before those of the text, and of these the one at the earliest place is
+ *               returned. Typed literals and tables have their own order, told at their declarations.
  *     r.place   A byte offset in the text, from 0. At JADVOLNI_OK it is the number of bytes read. At
  *               a fault of the text it is the place of the wrong byte, or `len` if something is
  *               missing at the end. At a fault of the format it is 0.
@@ -114,15 +117,18 @@ typedef enum jadvolni_status {
     JADVOLNI_OVERFLOW = 1,
 
     /* The number is less than the type's minimum. The place is that of the first digit at which the
-     * value leaves the type, whatever follows: 3 in "-1290" as i8. */
+     * value leaves the type, whatever follows: 3 in "-1290" as i8. Only a signed type has it: "-1" as
+     * u8 is JADVOLNI_INVALID_DIGIT at 0, and with `_front` JADVOLNI_EMPTY at 0. */
     JADVOLNI_UNDERFLOW = 2,
 
     /* The call reads the whole text, and the text continues after the number. The place is that of the
-     * first byte that isn't part of the number: 2 in "12x", and 0 in "x". */
+     * first byte that isn't part of the number: 2 in "12x", and 0 in "x". Of the calls that read a
+     * beginning, `_fixed_front` and jadvolni_parse_typed_literal return it too, as they say. */
     JADVOLNI_INVALID_DIGIT = 3,
 
     /* A digit is required and there is none, or the text ends directly after its prefix. The place is
-     * where the digit is missing: 0 in "", 1 in "+", and 2 in "0x" with the prefix 'x'. */
+     * where the digit is missing: 0 in "", 1 in "+", and 2 in "0x" with the prefix 'x'. In "_" it is
+     * 1 if separators may come before the first digit or after the last one. */
     JADVOLNI_EMPTY = 4,
 
     /* The format requires a sign, and the text doesn't begin with one. The place is 0. */
@@ -132,7 +138,7 @@ typedef enum jadvolni_status {
     JADVOLNI_INVALID_POSITIVE_SIGN = 6,
 
     /* The number has a leading zero, which the format forbids. The place is that of the first zero:
-     * 1 in "-01". */
+     * 1 in "-01". `_front` returns it too: "01" isn't 0 with the place 1. */
     JADVOLNI_INVALID_LEADING_ZEROS = 7,
 
     /* The format's radix isn't from 2 to 36. For this and the next five the place is 0. */
@@ -245,8 +251,10 @@ typedef struct jadvolni_result {
  *     jadvolni_format hexadecimal = jadvolni_format_of_radix(16);
  *     hexadecimal.base_prefix = 'x';
  *
- * DON'T BEGIN WITH {0}: then no digit is required, and an empty text, or an empty line of a column, is
- * 0 and no fault.
+ * DON'T BEGIN WITH {0}: its radix is refused, and once that is set, no digit is required: an empty
+ * text, or an empty line of a column, is 0 and no fault.
+ *
+ * No field requires a prefix or a suffix, or refuses a minus for a signed type.
  *
  * A flag is set by any byte but 0. A separator, prefix or suffix of 0 means none; for the byte 0
  * itself, also set its bit in `nul_is_punctuation`. A format is plain bytes, and needs no freeing. It
@@ -278,7 +286,8 @@ typedef struct jadvolni_format {
     /* Flag: a digit is required, as with required_mantissa_digits: one of the two is enough. */
     uint8_t required_integer_digits;
 
-    /* Flag: a digit is required. If neither field is set, a text without digits is 0. */
+    /* Flag: a digit is required. If neither field is set, "" and "+" are 0, but a prefix alone is
+     * not. parse_front still needs a digit, except of an amount. */
     uint8_t required_mantissa_digits;
 
     /* Flag: a "+" is refused. */
@@ -318,7 +327,8 @@ typedef struct jadvolni_format {
     uint8_t literal_octal_zero;
 
     /* Bits: which of separator, prefix and suffix is the byte 0 itself; its own field is then 0.
-     * JADVOLNI_NUL_IS_SEPARATOR, JADVOLNI_NUL_IS_PREFIX and JADVOLNI_NUL_IS_SUFFIX; other bits are 0. */
+     * JADVOLNI_NUL_IS_SEPARATOR, JADVOLNI_NUL_IS_PREFIX and JADVOLNI_NUL_IS_SUFFIX; other bits are 0.
+     * If the field isn't 0, its bit is ignored. */
     uint8_t nul_is_punctuation;
 
     /* All 0. They are for fields of later versions: if a program sets such a field, and runs with this
@@ -336,7 +346,8 @@ typedef struct jadvolni_format {
     {10, 0, 0, 0, 0, 0, 0, 1, 0, 0, 0, 0, 0, 0, 0, 0, 0, 0, 0, {0}}
 
 /* The standard format with another radix, from 2 to 36. With any other, each call refuses the format,
- * with JADVOLNI_INVALID_MANTISSA_RADIX. */
+ * with JADVOLNI_INVALID_MANTISSA_RADIX; but as the integer part of fixed-point numbers it has the
+ * radix 10. */
 static inline jadvolni_format jadvolni_format_of_radix(int radix)
 {
     jadvolni_format format = JADVOLNI_FORMAT_STANDARD;
@@ -581,9 +592,13 @@ JADVOLNI_SAME_BITS_(ullong, unsigned long long, uint64_t, jadvolni_parse_u64)
  * with the suffix "e5", and "0b102" is 0b10, that is 2, with the suffix "2". The caller also decides
  * what may follow a literal: in "1.5" a point follows the 1.
  *
- * The number and the faults are those of jadvolni_parse_u128_front_with_format. At a fault `*value` and
- * `*suffix` are unchanged. `suffix` is not NULL, and neither `*suffix` nor `*value` overlaps the text,
- * the format or the other.
+ * The format's own `base_suffix`, as the L of Java and Kotlin or the n of JavaScript, is part of the
+ * number, and not of the suffix. Clear the field to get it as the suffix.
+ *
+ * The number and the faults are those of jadvolni_parse_u128_front_with_format: so it has no minus
+ * under any format, and a plus if the format allows one. At a fault `*value` and `*suffix` are
+ * unchanged. `suffix` is not NULL, and neither `*suffix` nor `*value` overlaps the text, the format or
+ * the other.
  */
 jadvolni_result jadvolni_parse_literal(const char *text, size_t len, const jadvolni_format *format,
                                        jadvolni_uint128 *value, size_t *suffix)
@@ -639,10 +654,16 @@ typedef struct jadvolni_suffix {
  *
  *     JADVOLNI_UNKNOWN_FIELD, JADVOLNI_INVALID_SUFFIX_TABLE  of the format and of the table, whatever
  *                              the text.
- *     those of jadvolni_parse_literal, if the text doesn't begin with a number.
+ *     those of jadvolni_parse_literal, except JADVOLNI_OVERFLOW.
  *     JADVOLNI_INVALID_DIGIT   at a digit 0 to 9 directly after the number: 4 in "0b102".
  *     JADVOLNI_UNKNOWN_SUFFIX  where the suffix begins: 2 in "12abc", and 1 in "1e5".
  *     JADVOLNI_OVERFLOW        at the digit at which the number leaves its type: 2 in "300u8".
+ *
+ * The format's own `base_suffix` is part of the number, and never looked up: under
+ * JADVOLNI_FORMAT_JAVA "1L" has the entry of "". Clear the field to look it up.
+ *
+ * If more bytes may come, take no result as final while the suffix, or separators after the number,
+ * reach the text's end: "300u" is JADVOLNI_UNKNOWN_SUFFIX at 3, and may continue as "300u16".
  *
  * A LITERAL HAS NO MINUS: "-128i8" is JADVOLNI_EMPTY at 0, and "128i8" JADVOLNI_OVERFLOW at 2. If a
  * minus before a literal widens its range, let the entry name the unsigned type, and check the range

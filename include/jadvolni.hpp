@@ -90,7 +90,8 @@ inline const char *message(status of) noexcept
 }
 
 // Which texts are numbers. Begin with jadvolni_format_of_radix, or copy one of these, and change fields. A format{}
-// requires no digit: under it an empty text is 0.
+// has the radix 0, which each call with a format refuses. With the radix set it requires no digit, and an empty text is
+// 0.
 using format = jadvolni_format;
 inline constexpr format standard = JADVOLNI_FORMAT_STANDARD;
 inline constexpr format literal = JADVOLNI_FORMAT_LITERAL;
@@ -330,7 +331,8 @@ template <class T>
     return detail::called<T>(detail::calls_as<T>::front, text);
 }
 
-// Reads the number at the beginning of the text as a T, under a format.
+// Reads the number at the beginning of the text as a T, under a format. If that has a separator, and more bytes may
+// come, a result before separators that end the text isn't final either: "1_" may continue as "1_0".
 template <class T>
 [[nodiscard]] result<T> parse_front(std::string_view text, const format &under) noexcept
 {
@@ -384,7 +386,9 @@ struct literal_parts {
 };
 
 // Reads the literal at the beginning of the text, under the format of its language: "0xFFull" has the suffix "ull". Its
-// place() is after the suffix. docs/FORMATS.md lists the suffixes of each language.
+// place() is after the suffix. docs/FORMATS.md lists the suffixes of each language. The format's own base_suffix, as
+// the L of Java and Kotlin or the n of JavaScript, is part of the number: clear the field to get it as the suffix. The
+// number has no minus under any format, and a plus if the format allows one.
 [[nodiscard]] inline result<literal_parts> parse_literal(std::string_view text,
                                                          const format &under) noexcept
 {
@@ -417,7 +421,9 @@ struct typed_literal_parts {
 
 // Reads the literal at the beginning of the text, and checks it against the type that its suffix names in a table,
 // which is an array or a container of entries: "300u8" is status::overflow at 2, "0b102" status::invalid_digit at 4,
-// and "12abc" status::unknown_suffix at 2. A literal has no minus.
+// and "12abc" status::unknown_suffix at 2. A literal has no minus. The format's own base_suffix is part of the number,
+// and never looked up: clear the field for that. If more bytes may come, take no result as final while the suffix, or
+// separators after the number, reach the text's end: "300u" may continue as "300u16".
 template <class Table>
 [[nodiscard]] result<typed_literal_parts> parse_typed_literal(std::string_view text, const format &under,
                                                               const Table &suffixes) noexcept

@@ -21,7 +21,8 @@ export interface Fields {
   case_sensitive_base_suffix: boolean;
   /** A digit is required, as with required_mantissa_digits: one of the two is enough. */
   required_integer_digits: boolean;
-  /** A digit is required. If neither field is set, a text without digits is 0. */
+  /** A digit is required. If neither field is set, "" and "+" are 0, but a prefix alone is not.
+   * parse_front still needs a digit, except of an amount. */
   required_mantissa_digits: boolean;
   /** A "+" is refused. */
   no_positive_mantissa_sign: boolean;
@@ -51,7 +52,8 @@ export interface Fields {
   literal_octal_zero: boolean;
 }
 
-/** Which texts are numbers. A format can't be changed, and one that breaks a rule isn't made. */
+/** Which texts are numbers. A format can't be changed, and one that breaks a rule isn't made. No field
+ * requires a prefix or a suffix, or refuses a minus for a signed type. */
 export interface Format extends Readonly<Fields> {}
 export class Format {
   #private;

@@ -57,8 +57,8 @@ class Format:
         case.
     required_integer_digits: A digit is required, as with required_mantissa_digits: one of the two
         is enough.
-    required_mantissa_digits: A digit is required. If neither field is set, a text without digits is
-        0.
+    required_mantissa_digits: A digit is required. If neither field is set, "" and "+" are 0, but a
+        prefix alone is not. parse_front still needs a digit, except of an amount.
     no_positive_mantissa_sign: A "+" is refused.
     required_mantissa_sign: A text without a sign is refused.
     no_integer_leading_zeros: Leading zeros are refused, as in "01". After a prefix they aren't, nor
@@ -77,7 +77,8 @@ class Format:
         The radix of the format must be 10.
 
     FormatError tells which rule a format breaks. A field that has no effect without another, such
-    as `integer_leading_digit_separator` without `digit_separator`, is a ValueError.
+    as `integer_leading_digit_separator` without `digit_separator`, is a ValueError. No field
+    requires a prefix or a suffix, or refuses a minus for a signed type.
 
     >>> Format(mantissa_radix=16, base_prefix="x")
     Format(mantissa_radix=16, base_prefix='x')

@@ -11,7 +11,8 @@ use jadvolni_sys as sys;
 /// assert_eq!(parse_with_format::<u8>("0x1F", &HEXADECIMAL), Ok(31));
 /// ```
 ///
-/// Any values may be set: the calls refuse a format that breaks a rule, and `error` checks it in advance.
+/// Any values may be set: the calls refuse a format that breaks a rule, and `error` checks it in advance. No field
+/// requires a prefix or a suffix, or refuses a minus for a signed type.
 #[derive(Debug, Copy, Clone, PartialEq, Eq, Hash)]
 pub struct Format(pub(crate) sys::jadvolni_format);
 
@@ -54,8 +55,9 @@ impl Format {
     /// Decimal digits after an optional sign. A digit is required.
     pub const STANDARD: Format = ZEROS.mantissa_radix(10).required_mantissa_digits(true);
 
-    /// What the tokenizer reads: `1_000`, `0xFF`, `0o17`, `0b1`. It is no language's format: it reads
-    /// `0777` as 777, which is octal to C, and takes `+1`.
+    /// The format of the tokenizer's numbers: `1_000`, `0xFF`, `0o17`, `0b1`. It is no language's
+    /// format: it reads `0777` as 777, which is octal to C. Under it a call also reads `+1`, which is
+    /// two tokens.
     pub const LITERAL: Format = Format::STANDARD
         .digit_separator(Some(b'_'))
         .integer_internal_digit_separator(true)
@@ -89,7 +91,8 @@ impl Format {
         case_sensitive_base_suffix
         /// A digit is required, as with required_mantissa_digits: one of the two is enough.
         required_integer_digits
-        /// A digit is required. If neither field is set, a text without digits is 0.
+        /// A digit is required. If neither field is set, "" and "+" are 0, but a prefix alone is
+        /// not. parse_front still needs a digit, except of an amount.
         required_mantissa_digits
         /// A "+" is refused.
         no_positive_mantissa_sign
