@@ -8,7 +8,8 @@
 namespace jadvolni {
 
 // A number within bounds, or a fault: status::overflow where it is greater than they allow, status::underflow where it
-// is less, whether the type has it or not, and else what parse answers.
+// is less, whether the type has it or not, and place() is then 0; and else what is wrong besides: of "256x" as
+// std::uint8_t the x, at 3.
 template <class T>
 class within_result : public result<T> {
 public:
