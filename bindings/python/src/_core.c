@@ -163,10 +163,11 @@ static PyMethodDef METHODS[] = {
          "parse_front(text, type=\"i64\", format=None)\n--\n\n"
          "Return the number at the beginning of the text, and its length in bytes. A Fixed may\n"
          "be the type.\n\n"
-         "If no digit was read, ParseError has the place where reading stopped. If more bytes\n"
-         "may come, a result at the text's end isn't final: 12 may continue as 123. Of a Fixed,\n"
-         "neither is one before a point or separators that end the text: 12. may continue as\n"
-         "12.5."),
+         "If no digit was read, ParseError has the place where reading stopped, unless the type\n"
+         "is a Fixed whose format requires no digit. If more bytes may come, a result at the\n"
+         "text's end isn't final: 12 may continue as 123. Neither is one before separators that\n"
+         "end the text: 1_ may continue as 1_0. Nor, of a Fixed, one before a point or separators\n"
+         "that end the text: 12. may continue as 12.5."),
     CALL(parse_partial,
          "parse_partial(text, type=\"i64\", format=None)\n--\n\n"
          "As parse_front, but digits may be missing.\n\n"
@@ -175,8 +176,12 @@ static PyMethodDef METHODS[] = {
          "parse_literal(text, format=None)\n--\n\n"
          "Return the literal at the beginning of the text: its value, its suffix, and its length\n"
          "in bytes.\n\n"
-         "The suffix is all ASCII letters, digits 0 to 9 and \"_\" that follow the number; the\n"
-         "caller decides which are valid. The value has up to 128 bits."),
+         "Pass the format of the literal's language: without one the number is decimal digits, and\n"
+         "0xFFull is 0 with the suffix xFFull. The suffix is all ASCII letters, digits 0 to 9 and\n"
+         "\"_\" that follow the number; the caller decides which are valid. The format's own\n"
+         "base_suffix, as the L of Java and Kotlin or the n of JavaScript, is part of the number:\n"
+         "clear it, and case_sensitive_base_suffix, to get it as the suffix. The value has up to\n"
+         "128 bits. It has no minus under any format, and a plus if the format allows one."),
     CALL(parse_typed_literal,
          "parse_typed_literal(text, suffixes, format=None)\n--\n\n"
          "Return the literal at the beginning of the text as the type that its suffix names: its\n"
@@ -184,7 +189,9 @@ static PyMethodDef METHODS[] = {
          "suffixes: a dict of suffixes and their types, matched byte for byte. The empty suffix\n"
          "is for literals without one. ParseError is for a digit after the number, a suffix that\n"
          "isn't in the dict, or a number that leaves its type. A literal has no minus: if one\n"
-         "widens the range, let the suffix name the unsigned type."),
+         "widens the range, let the suffix name the unsigned type. Without a format, and of the\n"
+         "format's own base_suffix, what parse_literal says is true here too: 1L of Java has the\n"
+         "type of the empty suffix."),
     CALL(parse_column,
          "parse_column(text, type=\"i64\", separator=b\"\\n\", format=None, *, has_returns=False, "
          "allows_returns=False, allows_blanks=False, missing=None)\n--\n\n"
