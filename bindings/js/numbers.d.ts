@@ -80,11 +80,12 @@ export function parse<T extends NumberType>(
 /**
  * Returns the number at the beginning of a text: "12px" gives 12, and stops at 2. If no digit was read, it
  * throws a `ParseError` of the kind "Empty", except for an amount whose format requires no digit. If more
- * text may come, as from a stream, a result at the text's end isn't final: "12" may continue as "123".
+ * text may come, as from a stream, a result at the text's end isn't final: "12" may continue as "123". Nor
+ * is one before separators that end the text: "1_" may continue as "1_0".
  *
  * With places it is an amount. A digit after the last place is a fault. If fewer places are accepted, a
  * point that no digit follows isn't read: "12. And" stops at 2. So does "12.", which isn't final either if
- * more text may come, nor is a number before separators at the text's end.
+ * more text may come.
  */
 export function parseFront<T extends NumberType>(
   text: Text,
