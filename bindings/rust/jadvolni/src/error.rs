@@ -12,6 +12,7 @@ pub enum Error {
     /// The number is greater than the type's maximum. The place is that of the first digit at which it leaves the type.
     Overflow(usize),
     /// The number is less than the type's minimum. The place is that of the first digit at which it leaves the type.
+    /// Only a signed type has it: `-1` as `u8` is `InvalidDigit(0)`.
     Underflow(usize),
     /// The text continues after the number, at the place.
     InvalidDigit(usize),
@@ -21,7 +22,7 @@ pub enum Error {
     MissingSign(usize),
     /// The format forbids the plus sign. The place is 0.
     InvalidPositiveSign(usize),
-    /// The format forbids leading zeros, and one is at the place.
+    /// The format forbids leading zeros, and one is at the place, also of a front: `01` isn't 0 that stops at 1.
     InvalidLeadingZeros(usize),
     /// The format's radix isn't from 2 to 36.
     InvalidMantissaRadix,

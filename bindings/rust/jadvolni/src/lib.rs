@@ -136,6 +136,9 @@ pub fn parse_with_format<T: Integer>(text: impl AsRef<[u8]>, format: &Format) ->
 
 /// Reads the number at the beginning of the text as a `T`, under a format, and returns where reading stopped too.
 ///
+/// If the format has a separator, and more bytes may come, a result before separators that end the text isn't final
+/// either: `1_` may continue as `1_0`.
+///
 /// ```
 /// use jadvolni::{parse_front_with_format, Error, Format};
 /// assert_eq!(parse_front_with_format::<u64>("0b102", &Format::LITERAL), Ok((2, 4)));

@@ -26,7 +26,10 @@ pub struct Literal {
 /// # Ok::<(), Error>(())
 /// ```
 ///
-/// The caller decides which suffixes are valid: `1e5` is 1 with the suffix `e5`.
+/// The caller decides which suffixes are valid: `1e5` is 1 with the suffix `e5`. The format's own suffix, as the `L` of
+/// Java and Kotlin or the `n` of JavaScript, is part of the number: `base_suffix(None)` makes it the literal's suffix.
+///
+/// The number is a `u128`: it has no minus under any format, and a plus if the format allows one.
 pub fn parse_literal(text: impl AsRef<[u8]>, format: &Format) -> Result<Literal, Error> {
     let (text, mut value, mut number_stop) = (text.as_ref(), sys::jadvolni_uint128::default(), 0);
     // SAFETY: the pointers are those of a slice with its length, of a borrowed format, and of two values

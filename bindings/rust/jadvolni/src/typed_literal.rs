@@ -124,7 +124,11 @@ pub struct TypedLiteral {
 ///
 /// `Error::InvalidDigit` is at a digit `0` to `9` directly after the number, `Error::UnknownSuffix` where a suffix
 /// begins that is in no entry, and `Error::Overflow` at the digit at which the number leaves its type. Of two entries
-/// with the same suffix the first is used.
+/// with the same suffix the first is used. The format's own suffix is part of the number, and never looked up: `1L`
+/// under `Format::JAVA` has the entry of the empty suffix. `base_suffix(None)` of the format leaves it to the table.
+///
+/// If more bytes may come, take no result as final while the suffix, or separators after the number, reach the text's
+/// end: `300u` may continue as `300u16`.
 ///
 /// A literal has no minus: `-128i8` is `Error::Empty(0)`, and `128i8` is `Error::Overflow(2)`. If a minus before a
 /// literal widens its range, let the entry name the unsigned type, and check the range where the sign is known.
