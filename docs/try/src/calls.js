@@ -118,20 +118,69 @@ const WORDS_OF_PYTHON = {
   byte: (byte) => quoted([byte]),
 };
 
-function inPython({ bytes, type, call, base, changes }) {
-  const given = changes.map((it) => `${it.name}=${valueIn(WORDS_OF_PYTHON, it)}`);
+const PLACES = ["leading", "internal", "trailing"].map((it) => `integer_${it}_digit_separator`);
+const BEHIND_PREFIX = "integer_prefix_digit_separator";
+const PREFIXES = ["base_prefix", "literal_prefixes"];
+/** What changes nothing unless one of other fields is set: Python's Format refuses it. */
+const NEEDED = [
+  ["digit_separator", [...PLACES, BEHIND_PREFIX]],
+  ...PLACES.map((name) => [name, ["digit_separator"]]),
+  ["integer_consecutive_digit_separator", ["digit_separator"]],
+  [BEHIND_PREFIX, ["digit_separator"]],
+  [BEHIND_PREFIX, PREFIXES],
+  ["case_sensitive_base_prefix", PREFIXES],
+  ["case_sensitive_base_suffix", ["base_suffix"]],
+];
+const LONE_SEPARATOR = "# Format takes no separator that may stand nowhere; with one, parse_partial"
+  + " answers as this.";
+
+/** Fields without those that change nothing. One that is left out may be what another one needs. */
+function withEffect(fields) {
+  const isSet = (name) => fields.some((it) => it.name === name && (it.value ?? false) !== false);
+  const isIdle = ({ name }) => NEEDED.some(([of, needed]) => of === name && !needed.some(isSet));
+  const left = fields.filter((it) => !isIdle(it));
+  return left.length === fields.length ? left : withEffect(left);
+}
+
+/** Whether a format with these fields requires a digit. */
+function requiresDigit(fields) {
+  const valueOf = (name, standard) => fields.find((it) => it.name === name)?.value ?? standard;
+  return valueOf("required_integer_digits", false) || valueOf("required_mantissa_digits", true);
+}
+
+/** The changes without fields that change nothing: those that the preset sets are cleared. */
+function changesInPython({ base, changes, idle }) {
+  const isIdle = ({ name }) => idle.some((it) => it.name === name);
+  const isChanged = ({ name }) => changes.some((it) => it.name === name);
+  const isClear = (it) => !base || (it.kind === "flag" && isChanged(it));
+  const cleared = idle.filter((it) => !isClear(it))
+    .map((it) => ({ ...it, value: it.kind === "flag" ? false : null }));
+  return [...changes.filter((it) => !isIdle(it)), ...cleared];
+}
+
+function inPython({ bytes, type, call, base, changes, fields, isValid }) {
+  // The fault of an invalid format comes before that of a field that changes nothing.
+  const kept = isValid ? withEffect(fields) : fields;
+  const idle = fields.filter((it) => !kept.includes(it));
+  const left = changesInPython({ base, changes, idle });
+  const given = left.map((it) => `${it.name}=${valueIn(WORDS_OF_PYTHON, it)}`);
   const preset = base && `jadvolni.formats.${base.toUpperCase()}`;
   const made = base ? `dataclasses.replace(${[preset, ...given].join(", ")})`
     : `jadvolni.Format(${given.join(", ")})`;
-  const named = changes.length ? "form" : preset;
+  const named = given.length ? "form" : preset;
   const under = named ? `, ${named}` : "";
-  const name = call === "whole" ? "parse" : `parse_${call}`;
+  // A partial parse under any separator requires the digit even where the text goes on.
+  const isFront = call === "partial" && idle.some((it) => it.name === "digit_separator")
+    && requiresDigit(fields);
+  const asked = isFront ? "front" : call;
+  const name = asked === "whole" ? "parse" : `parse_${asked}`;
   const value = call === "whole" ? "value" : "value, place";
   return [
-    ...(base && changes.length ? ["import dataclasses"] : []),
+    ...(base && given.length ? ["import dataclasses"] : []),
     "import jadvolni",
     "",
-    ...(changes.length ? [`form = ${made}`] : []),
+    ...(isFront ? [LONE_SEPARATOR] : []),
+    ...(given.length ? [`form = ${made}`] : []),
     `${value} = jadvolni.${name}(${quoted(bytes)}, "${type}"${under})`,
   ];
 }

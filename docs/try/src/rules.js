@@ -68,10 +68,10 @@ function ofInvalidDigit(found, type, place) {
   const byte = found.bytes[place];
   const named = `“${typedOf(byte)}”`;
   const isBehindSuffix = found.parts.some((part) => part.role === "suffix" && part.to === place);
+  if (isBehindSuffix) return { rule: "suffix", says: `${named} follows the suffix.` };
   if (byte === found.fields.digit_separator) {
     return { rule: "separators", says: "This run of separators isn't allowed." };
   }
-  if (isBehindSuffix) return { rule: "suffix", says: `${named} follows the suffix.` };
   if (place === 0 && byte === 45) {
     return { rule: "sign", says: `A minus sign isn't allowed: ${type} is unsigned.` };
   }
@@ -114,8 +114,10 @@ function ofNumber(found, { type, call }) {
     const { value } = found.answer;
     return { rule: "value", says: `The value is ${value}, which fits in ${type}.` };
   }
-  const rule = call === "whole" ? "required" : "partial";
-  return { rule, says: "No digit is required, so the number is 0." };
+  if (call === "partial") {
+    return { rule: "partial", says: "No digit stands here, and a partial parse then returns 0." };
+  }
+  return { rule: "required", says: "No digit is required, so the number is 0." };
 }
 
 /**
