@@ -163,10 +163,10 @@ static PyMethodDef METHODS[] = {
          "parse_front(text, type=\"i64\", format=None)\n--\n\n"
          "Return the number at the beginning of the text, and its length in bytes. A Fixed may\n"
          "be the type.\n\n"
-         "If no digit was read, ParseError has the place where reading stopped. If more bytes\n"
-         "may come, a result at the text's end isn't final: 12 may continue as 123. Of a Fixed,\n"
-         "neither is one before a point or separators that end the text: 12. may continue as\n"
-         "12.5."),
+         "If no digit was read, ParseError has the place where reading stopped, unless the type\n"
+         "is a Fixed whose format requires no digit. If more bytes may come, a result at the\n"
+         "text's end isn't final: 12 may continue as 123. Of a Fixed, neither is one before a\n"
+         "point or separators that end the text: 12. may continue as 12.5."),
     CALL(parse_partial,
          "parse_partial(text, type=\"i64\", format=None)\n--\n\n"
          "As parse_front, but digits may be missing.\n\n"
