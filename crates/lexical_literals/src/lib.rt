@@ -9,7 +9,9 @@
 //!
 //! A digit is one of the format's radix: `0` to `9` for [`Tokens::new`]. A number begins with a digit and with
 //! nothing else, whatever its format allows. So a sign and a separator before the first digit are tokens of their
-//! own: `-5` is a byte and a number. Spaces, tabs, line feeds and carriage returns between tokens are skipped.
+//! own: `-5` is a byte and a number. A number is what the partial parser reads: under a format with a prefix and no
+//! separator `0x;` is the number 0, from 0 to 2, and a byte, and only at the source's end is `0x` a fault. Spaces,
+//! tabs, line feeds and carriage returns between tokens are skipped.
 #![tactic(auto)]
 
 mod bytes;
@@ -49,7 +51,8 @@ pub use typed::{LiteralError, TypedLiteral, typed_literal_in_front};
 #[derive(Debug, PartialEq, Eq, Drop)]
 pub enum Kind {
     /// A number, by its value: decimal, or after `0x`, `0o` or `0b`, as [`literal_format`] has it,
-    /// or as the source's own format has it.
+    /// or as the source's own format has it. Under one with a prefix and no separator, `0x` before another
+    /// byte than a digit is 0.
     Number(u128),
     /// An ASCII letter or `_`, and the ASCII letters, `0` to `9` and `_` that follow. Where a format's radix
     /// lacks some of `0` to `9`, a word may begin with one of these.
