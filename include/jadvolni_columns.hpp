@@ -62,9 +62,9 @@ struct named_column {
 class columns_by_header {
 public:
     // The columns of a text that begins with a header, which is its first row, and follows the rules of the table: a
-    // name may be enclosed in quotes, and then contain separators, line feeds and doubled quotes; blanks around it are
-    // ignored if the table allows them. A byte order mark before it is skipped, and so are empty rows if the table
-    // skips them.
+    // name may be enclosed in quotes, and then contain separators, line feeds and doubled quotes; blanks around it,
+    // within its quotes if it has them, are ignored if the table allows them. A byte order mark before it is skipped,
+    // and so are empty rows if the table skips them.
     columns_by_header(std::string_view text, const table &how, std::initializer_list<named_column> wanted)
         : columns_by_header(text, how, wanted.begin(), wanted.size())
     {
