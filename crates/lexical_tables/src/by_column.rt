@@ -357,10 +357,11 @@ pub(crate) fn read_rest<'a, C: TableColumn>(
 
 /// Reads a table's columns into slices of their own, for at most `rows` rows.
 ///
-/// Each cell of a row has a target, or none: then it isn't read, and may hold any bytes. So it is with cells
-/// behind the last target. The number of a cell is put at its row's place in the target's slice, and all else
-/// in the slices is as it was, also after a fault: then the numbers are those of all cells before the wrong
-/// one. Where the text has more rows than are asked for, `stop` is where the next one starts.
+/// Each cell of a row has a target, or none: then it isn't read, and may hold any bytes but what ends it, if its
+/// quotes are in place where these have a meaning. So it is with cells behind the last target. The number of a
+/// cell is put at its row's place in the target's slice, and all else in the slices is as it was, also after a
+/// fault: then the numbers are those of all cells before the wrong one. Where the text has more rows than are
+/// asked for, `stop` is where the next one starts.
 ///
 /// The format of each target has to be valid, and its slice and its bits have to have room for
 /// `rows` rows.
