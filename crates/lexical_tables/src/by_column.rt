@@ -18,6 +18,7 @@ use crate::misplaced::quote_fault;
 use crate::pass::{marked_separator, read_unmarked_rows};
 use crate::rows::{Row, first_row};
 use crate::targets::TableColumn;
+use crate::wide_rows::{has_widths, read_wide_rows};
 use lexical_parse_integer::{Error, Options};
 
 // Puts the number of what a cell holds into the row's place, or returns its fault.
@@ -263,7 +264,7 @@ pub(crate) fn read_by_column<C: TableColumn>(
 // returns. The first `first` columns and `passed` bytes of the row were read before. `ahead` begins
 // with the row.
 #[inline(always)]
-fn read_cells<C: TableColumn>(
+pub(crate) fn read_cells<C: TableColumn>(
     row: &Row<'_>,
     ahead: &[u8],
     passed: usize,
@@ -384,7 +385,10 @@ pub fn read_columns<C: TableColumn>(
     ensures goes_on { IfOk result (StopsAt dialect.now rows text.now) }
 {
     let Some(separator) = marked_separator(text, dialect) else {
-        return read_unmarked_rows(text, dialect, options, rows, targets);
+        if has_widths(text, dialect) {
+            return read_wide_rows(text, dialect, options, rows, targets);
+        }
+        return read_unmarked_rows::<C, false>(text, &[], dialect, options, rows, targets);
     };
     if dialect.has_quotes {
         return read_rows::<C, true>(text, separator, dialect, options, rows, targets);
