@@ -67,8 +67,8 @@
  * and of an unused result.
  *
  * WHAT NO CALL DOES. No call allocates memory, keeps state between calls, sets errno, reads a locale,
- * skips spaces, or calls any other function. So any number of threads, and signal handlers, may make
- * calls at the same time.
+ * skips spaces (unless a table allows blanks), or calls any other function. So any number of threads,
+ * and signal handlers, may make calls at the same time.
  *
  * It is proved, for every text and every format, that each call returns, reads nothing outside the
  * text and the format, and answers exactly what the grammar says. docs/GRAMMAR.md has the grammar in
@@ -869,25 +869,32 @@ size_t jadvolni_field_start(const char *text, size_t len, uint8_t separator)
 
 /* How a table is written. Begin with {0}, and set what differs. */
 typedef struct jadvolni_table {
-    /* The byte between two cells of a row. Whatever it is, a line feed ends a row. */
+    /* The byte between two cells of a row. Whatever it is, a line feed ends a row, and a carriage return
+     * that belongs to this end doesn't separate cells. No row ends with a return alone. */
     uint8_t separator;
 
-    /* Flag: each line feed has a carriage return before it. Otherwise a carriage return is a byte of its
-     * cell, and so a fault in a number. For rows that end either way there is `allows_returns`. */
+    /* Flag: the line feed that ends a row has a carriage return before it. Any other carriage return is a
+     * byte of its cell, even at the end of the text, and so a fault in a number; without this flag each
+     * is. For rows that end either way there is `allows_returns`. */
     uint8_t has_returns;
 
-    /* Flag: a cell may be enclosed in quotes, '"', and may then contain separators and line feeds. If the
-     * separator is a quote, it still separates cells. */
+    /* Flag: a cell may be enclosed in quotes, '"', and may then contain separators and line feeds. Its
+     * width, if it has one, includes the quotes. Don't combine this with a quote as the separator: that
+     * still separates cells, but after an odd number of them in a row a line feed doesn't end it. */
     uint8_t has_quotes;
 
-    /* Flag: spaces and tabs may surround a number, or what stands for a missing one. */
+    /* Flag: spaces and tabs may surround a number, or what stands for a missing one. If that is quoted,
+     * they stand within the quotes: with a blank outside them a quote is misplaced. */
     uint8_t allows_blanks;
 
-    /* Flag: empty rows are skipped. Otherwise an empty row has one empty cell, or with widths none. */
+    /* Flag: a row without a byte before its end is skipped, and has no number, even if an empty cell is a
+     * missing one. With `has_returns` it may end with a line feed alone. A row of blanks isn't empty.
+     * Otherwise an empty row has one empty cell, or with widths those of width 0 before all others. */
     uint8_t skips_empty_rows;
 
     /* Flag: a row is a record: as many bytes as the sum of the widths, but at least one. Nothing
-     * separates rows, and a line feed is a byte like any other. This needs widths. */
+     * separates rows, and a line feed is a byte like any other: one at the end of a file belongs to a
+     * further record. This needs widths. */
     uint8_t is_records;
 
     /* Flag: the line feed that ends a row may have a carriage return before it, which isn't a byte of the
@@ -898,9 +905,10 @@ typedef struct jadvolni_table {
     /* All 0: they are for fields of later versions. */
     uint8_t reserved[9];
 
-    /* What stands for a missing number, byte for byte, in columns that have bits: as a whole cell, also
-     * within its quotes, and between blanks if they are allowed. With no bytes, it is an empty cell that
-     * stands for one, and `missing` may be NULL. */
+    /* What stands for a missing number or text, byte for byte, in columns that have bits. It is all that
+     * a cell holds: what stands within its quotes, if it has them, with doubled ones as they are; and for
+     * a number, without its blanks if they are allowed. With no bytes, an empty cell stands for one, and
+     * so does one of two quotes, "", if the table has quotes; and `missing` may be NULL. */
     const char *missing;
     size_t missing_len;
 
@@ -929,9 +937,9 @@ typedef struct jadvolni_cell_text {
 /*
  * A column of a table: what its cells look like, and the array for its numbers or for the places of its
  * texts. SET ONE OF THE ARRAYS: it chooses the type. If several have room, the first of them is used.
- * A column with none, such as {0}, isn't read: its cells may hold any bytes but the separator and a line
- * feed. If the call's `capacity` isn't 0, the radix of its format must then be 0, as in {0}: otherwise
- * the status is JADVOLNI_INVALID_TABLE.
+ * A column with none, such as {0}, isn't read: its cells may hold any bytes but what ends a cell; if the
+ * table has quotes, these must be in place, as in a text. If the call's `capacity` isn't 0, the radix of
+ * its format must then be 0, as in {0}: otherwise the status is JADVOLNI_INVALID_TABLE.
  *
  *     jadvolni_table_column amount = {.places = 2, .point = ',', .i64 = {cents, 1000}};
  *     amount.format.digit_separator = '.';
@@ -964,8 +972,9 @@ typedef struct jadvolni_table_column {
     JADVOLNI_ARRAY_(i8, int8_t);
     JADVOLNI_ARRAY_(u8, uint8_t);
 
-    /* Where texts are. A text may contain any bytes, and doubled quotes within its own: "a ""b""" is the
-     * text a ""b"", which jadvolni_fold_quotes turns into a "b". Blanks are bytes like any other. */
+    /* Where texts are. A text may contain any bytes but what ends its cell. If the table has quotes, one
+     * with a quote must be enclosed in them, and its own are doubled: "a ""b""" is the text a ""b"", which
+     * jadvolni_fold_quotes turns into a "b". Blanks are bytes like any other, even if they are allowed. */
     struct {
         jadvolni_cell_text *texts;
         size_t capacity;
@@ -973,7 +982,8 @@ typedef struct jadvolni_table_column {
 
     /* The bits that say whether a row has a number or a text: for row k, bit k & 7 of byte k >> 3, where bit
      * 0 is the lowest. It is 1 if there is one, and 0 if it is missing: then the array has 0, or a text of
-     * no bytes at place 0. Without these bytes none may be missing. */
+     * no bytes at place 0. Without these bytes none may be missing. Those of a column that isn't read
+     * are unchanged. */
     struct {
         uint8_t *bytes;
         size_t size;
@@ -1040,7 +1050,9 @@ typedef struct jadvolni_table_result {
  * block. A call reads at most `capacity` rows: before you read the next part, call again with what is
  * left, until fewer rows than `capacity` come.
  *
- * A header isn't a row of the table: pass what follows it.
+ * A header isn't a row of the table: pass what follows it, from place
+ * `jadvolni_row_place(text, len, &table, 0).stop` on. A byte order mark, EF BB BF, isn't skipped: it
+ * belongs to the first cell, and no number begins with it.
  *
  * In addition to what the head of this file requires, `columns` points to `column_count` columns, and may
  * be NULL if that is 0. The array of a column points to as many writable elements as its capacity,
@@ -1160,7 +1172,9 @@ typedef struct jadvolni_skipping_result {
  *         fprintf(stderr, "row %zu, column %zu, byte %zu: %s\n", bad[k].row + 1, bad[k].column + 1,
  *                 bad[k].place, jadvolni_status_text(bad[k].status));
  *
- *     r.status    JADVOLNI_OK, whatever the text, or what is wrong with the table or with a column.
+ *     r.status    JADVOLNI_OK, whatever the text, or what is wrong with the table or with a column. For
+ *                 the words copy its fields into a jadvolni_table_result for jadvolni_table_text:
+ *                 {r.status, r.column, r.rows, r.place}.
  *     r.column    The column that is wrong, from 0; otherwise 0.
  *     r.rows      How many good rows were read, at most `capacity`.
  *     r.bad_rows  How many bad rows were skipped, including those that `bad` has no room for.
@@ -1170,9 +1184,11 @@ typedef struct jadvolni_skipping_result {
  *     bad         The bad rows, in order, as long as there is room. The rest of the array is unchanged.
  *
  * All good rows are stored, and no others, without gaps. A row with too few or too many cells is as bad
- * as any other. A bad row is read up to its fault, into the elements of the next good one: so if fewer
- * rows than `capacity` come, the element after the last one, and its bit, may have changed in each
- * array. Everything else there is unchanged.
+ * as any other. If the table has quotes, a stray one takes the lines up to the next stray one, or to the
+ * end of the text, into its row: if that is bad, they are all skipped, as one row. A bad row is read up
+ * to its fault, into the elements of the next good one: so if fewer rows than `capacity` come, the
+ * element after the last one, and its bit, may have changed in each array. Everything else there is
+ * unchanged.
  *
  * So "365;rent;-80000\r\n366;x\r\n367;;7\r\n" in the ledger gives two rows, 365 and 367, and one bad row:
  * number 1, JADVOLNI_TOO_FEW_CELLS in column 2 at 22, from 17 to 24. The place is 32.

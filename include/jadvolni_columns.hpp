@@ -62,9 +62,9 @@ struct named_column {
 class columns_by_header {
 public:
     // The columns of a text that begins with a header, which is its first row, and follows the rules of the table: a
-    // name may be enclosed in quotes, and then contain separators, line feeds and doubled quotes; blanks around it are
-    // ignored if the table allows them. A byte order mark before it is skipped, and so are empty rows if the table
-    // skips them.
+    // name may be enclosed in quotes, and then contain separators, line feeds and doubled quotes; blanks around it,
+    // within its quotes if it has them, are ignored if the table allows them. A byte order mark before it is skipped,
+    // and so are empty rows if the table skips them.
     columns_by_header(std::string_view text, const table &how, std::initializer_list<named_column> wanted)
         : columns_by_header(text, how, wanted.begin(), wanted.size())
     {
@@ -214,27 +214,30 @@ private:
     std::size_t find(std::string_view name)
     {
         auto first = std::find(names_.begin(), names_.end(), name);
-        const char *fault = "no column ";
+        const char *fault = "no column ", *hint = "";
         if (first != names_.end()) {
             if (std::find(first + 1, names_.end(), name) == names_.end())
                 return static_cast<std::size_t>(first - names_.begin());
             fault = "more than one column ";
+        } else if (!how_.has_returns && !how_.allows_returns && names_.back() == std::string(name) + '\r') {
+            hint = "; allows_returns may have to be set";
         }
         std::string message = fault + quoted(name) + ": the header has ";
         constexpr std::size_t most = 40;
         for (std::size_t index = 0; index < std::min(most, names_.size()); ++index)
             message += (index ? ", " : "") + quoted(names_[index]);
         if (names_.size() > most) message += " and " + std::to_string(names_.size() - most) + " more";
-        return fail(message), names_.size();
+        return fail(message + hint), names_.size();
     }
 
-    // A name in quotes, cut after 40 bytes, but not within a character of UTF-8.
+    // A name in quotes and with escapes, cut after 40 bytes, but not within a character of UTF-8.
     static std::string quoted(std::string_view name)
     {
         std::size_t size = 40;
-        while (size < name.size() && (static_cast<unsigned char>(name[size]) & 0xC0) == 0x80) ++size;
-        auto front = '"' + std::string(name.substr(0, size)) + '"';
-        return size < name.size() ? front + " .." : front;
+        while (size < 43 && size < name.size() && (static_cast<unsigned char>(name[size]) & 0xC0) == 0x80) ++size;
+        detail::short_text<4 * 43 + 3> front; // (an escape has at most four bytes)
+        front.put_quoted(name.substr(0, size), false);
+        return size < name.size() ? std::string(front.c_str()) + " .." : front.c_str();
     }
 
     table how_;

@@ -61,8 +61,8 @@ template <class T, class = std::enable_if_t<!std::is_same_v<T, cell_text>>>
     return column;
 }
 
-// A column of texts, which stores in an array where each is. A cell may hold any bytes, and doubled quotes within its
-// own.
+// A column of texts, which stores in an array where each is. A text may contain any bytes but what ends its cell. If
+// the table has quotes, one with a quote must be enclosed in them, and its own are doubled.
 [[nodiscard]] inline table_column column_into(cell_text *texts, std::size_t capacity) noexcept
 {
     return detail::column_of_texts(texts, capacity);
@@ -333,7 +333,8 @@ inline skipping_result read_table_skipping(std::string_view text, bool is_last, 
 } // namespace detail
 
 // As parse_table_part, but bad rows are skipped: each is described in `bad`, as long as there is room, and the good
-// ones are stored without gaps.
+// ones are stored without gaps. If the table has quotes, a stray one takes the lines up to the next stray one, or to
+// the end of the text, into its row: if that is bad, they are all skipped, as one row.
 template <class Columns, class Bad>
 [[nodiscard]] skipping_result parse_table_part_skipping(std::string_view text, bool is_last,
                                                         const table &how, std::size_t capacity,

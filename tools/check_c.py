@@ -86,15 +86,25 @@ def static_library(place: Place) -> str:
     return exported(name for kind, _, name in symbols if kind == "T")
 
 
+def size_in_readme(library: str) -> str:
+    """The size of the shared library: README's is within 5 in 100 of it."""
+    size = os.path.getsize(library) / 1000
+    stated = re.findall(r"(\d+) kB for the shared library", text_of("README.md"))
+    if len(stated) != 1 or abs(int(stated[0]) / size - 1) > 0.05:
+        raise Failed(f"it has {size:.0f} kB, and README.md says {stated}")
+    return f"{size:.0f} kB"
+
+
 def shared_library(place: Place) -> str:
-    """It needs no library, has the SONAME, and exports the calls of the header alone."""
+    """It needs no library, has the SONAME, README's size, and the calls of the header alone."""
     needs("nm", "readelf")
     needs_shared(place)
     library = place.library("libjadvolni.so")
     said = run(["readelf", "-d", library])
     if "NEEDED" in said or "TEXTREL" in said or "[libjadvolni.so.0]" not in said:
         raise Failed(said)
-    return exported(re.findall(r" T (\S+)@@J", run(["nm", "-D", "--defined-only", library])))
+    names = exported(re.findall(r" T (\S+)@@J", run(["nm", "-D", "--defined-only", library])))
+    return f"{names}, {size_in_readme(library)}"
 
 
 def flags_of_a_distribution(place: Place) -> str:

@@ -52,7 +52,8 @@ export class ParseError extends JadvolniError {
    * only ASCII before it, it is also the index into that.
    */
   readonly place: number;
-  /** In a column, the index of the first bad field, and where it starts; otherwise undefined. */
+  /** In a column, the index of the first bad field, and the offset where it starts, in bytes as `place`;
+   * otherwise undefined. */
   readonly field: number | undefined;
   readonly start: number | undefined;
   /** In a table, the number of the row, among good and bad ones, and the column; otherwise undefined. */
@@ -62,7 +63,8 @@ export class ParseError extends JadvolniError {
   readonly columnName: string | undefined;
   /** In a table, the number of line feeds before the place; otherwise undefined. */
   readonly line: number | undefined;
-  /** In a table, where the row starts, and the place after its line end; otherwise undefined. */
+  /** In a table, the offset where the row starts, and that after its line end, in bytes as `place`: they are
+   * indexes into a string only if it has only ASCII before them. Otherwise undefined. */
   readonly rowStart: number | undefined;
   readonly rowStop: number | undefined;
   /** In a table, the first 40 bytes of the wrong cell, with its quotes and blanks, but no part of a

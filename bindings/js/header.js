@@ -77,8 +77,11 @@ function listed(names) {
   return names.slice(0, LISTED).map(described).join(", ") + rest;
 }
 
-/** A hint for the error if the header has one column: the separator may be another one. */
-function hintOf(names, { separator, widths }) {
+/** A hint for the error: the last name may have the return of its line, or if the header has one column, the separator
+ * may be another one. */
+function hintOf(names, name, { separator, widths, has_returns, allows_returns }) {
+  const hasNone = !has_returns && !allows_returns;
+  if (hasNone && names.at(-1) === `${name}\r`) return "; allows_returns may have to be true";
   const isOther = (it) => names[0].includes(it) && it.charCodeAt(0) !== separator;
   const other = names.length === 1 && widths.length === 0 ? SEPARATORS.find(isOther) : undefined;
   return other === undefined ? "" : `; separator may have to be ${described(other)}`;
@@ -89,6 +92,6 @@ export function columnOf(names, name, how) {
   const column = names.indexOf(name);
   if (column !== -1 && names.indexOf(name, column + 1) === -1) return column;
   const [kind, count] = column === -1 ? ["Missing", "no"] : ["Doubled", "more than one"];
-  const hint = column === -1 ? hintOf(names, how) : "";
+  const hint = column === -1 ? hintOf(names, name, how) : "";
   throw new HeaderError(kind, `${count} column ${described(name)}: the header has ${listed(names)}${hint}`, names);
 }

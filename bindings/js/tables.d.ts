@@ -16,7 +16,8 @@ export interface ReadTexts {
   type: "text";
   /** The encoding of the texts, by the names of TextDecoder: by default "utf-8". */
   encoding?: string;
-  /** Texts may be missing: those that are exactly what stands for a missing number. */
+  /** Texts may be missing: those that are exactly what stands for a missing number. By default that is an
+   * empty cell, and "" too if the table has quotes. */
   may_miss?: boolean;
   format?: undefined;
   places?: undefined;
@@ -27,7 +28,8 @@ export type TableColumn = keyof Columns | "text" | ReadColumn | ReadTexts | null
 
 /**
  * The texts of a column, each decoded when it is asked for. If a table has quotes, and a cell is enclosed
- * in them, the text is what is within, with each doubled quote as one. Blanks are part of it.
+ * in them, the text is what is within, with each doubled quote as one; a text with a quote must be
+ * enclosed. Blanks are part of it.
  *
  * It keeps the bytes that were read. Careful: if they change, so do its texts; if their buffer is
  * transferred or grows, a call throws `TypeError`. `Array.from(texts)` keeps them as strings.
@@ -68,30 +70,39 @@ export type TableArrays<C> = { -readonly [K in keyof C]: TableArray<C[K]> };
 
 /** How a table is written. */
 export interface Table {
-  /** The byte between two cells of a row: by default ",". Whatever it is, a line feed ends a row. */
+  /** The byte between two cells of a row: by default ",". Whatever it is, a line feed ends a row, and a
+   * carriage return that belongs to this end doesn't separate cells. No row ends with a return alone. */
   separator?: Byte;
-  /** Each line feed has a carriage return before it. Otherwise a carriage return is a byte of its cell. */
+  /** The line feed that ends a row has a carriage return before it. Any other carriage return is a byte of
+   * its cell, even at the end of the text; if neither this nor `allows_returns` is set, each is. */
   has_returns?: boolean;
   /** The line feed that ends a row may have a carriage return before it: so each row may end either way. Any
-   * other is a byte of its cell. No effect if `has_returns` is set. */
+   * other return is a byte of its cell. No effect if `has_returns` is set. */
   allows_returns?: boolean;
-  /** A cell may be enclosed in quotes, '"', and may then contain separators and line feeds. */
+  /** A cell may be enclosed in quotes, '"', and may then contain separators and line feeds. Its width, if it
+   * has one, includes the quotes. Don't combine this with a quote as the separator: after an odd number of
+   * them in a row a line feed doesn't end it. */
   has_quotes?: boolean;
-  /** Spaces and tabs may surround a number, or what stands for a missing one. */
+  /** Spaces and tabs may surround a number, or what stands for a missing one: within its quotes if it has
+   * them, and not in a text, where they are characters like any other. */
   allows_blanks?: boolean;
-  /** Empty rows are skipped. Otherwise an empty row has one empty cell. */
+  /** Rows without a byte before their end are skipped: they have no number, and are no missing cells. With
+   * `has_returns` such a row may end with a line feed alone. A row of blanks isn't empty. Otherwise an empty
+   * row has one empty cell, or with widths those of width 0 before all others. */
   skips_empty_rows?: boolean;
-  /** What stands for a missing number in columns that may miss some, or for a missing text: by default an
-   * empty cell. */
+  /** What stands for a missing number in columns that may miss some, or for a missing text: all that a cell
+   * holds, within its quotes if it has them, and for a number without its blanks. By default an empty cell. */
   missing?: Text;
   /** How many bytes the cell of each column has. There are then no separators, and none may be given. */
   widths?: readonly number[];
-  /** A row is a record, of as many bytes as the sum of the widths, and nothing separates rows. Otherwise it
-   * is a line. */
+  /** A row is a record, of as many bytes as the sum of the widths, but at least one, and nothing separates
+   * rows: a line feed at the end of a file belongs to a further record. Otherwise a row is a line. */
   is_records?: boolean;
   /** The first row is a header, which isn't a row of the table. It follows the rules of the table: a name
-   * may be enclosed in quotes, and may then contain separators, line feeds and doubled quotes. A byte order
-   * mark before it is skipped. */
+   * may be enclosed in quotes, and may then contain separators, line feeds and doubled quotes; blanks around
+   * it, within its quotes if it has them, are ignored if the table allows them. A byte order mark before it is
+   * skipped, and so are empty rows if the table skips them. Without a header the mark belongs to the first
+   * cell. */
   header?: boolean;
 }
 
@@ -116,13 +127,15 @@ export interface Skipped<A> {
 
 /**
  * Returns the rows of a text, each column as an array, or null for one that isn't read, whose cells may hold
- * any bytes but the separator and a line feed, or even these within quotes. A row is a line. It has one
- * cell more than separators, and needs one for each column, unless the table has widths. The text may be
- * of any length; a row of more than `LONGEST_ROW` bytes is a `RangeError`. Careful: the end of a text
+ * any bytes but what ends a cell; if the table has quotes, these must be in place. A row is a line. It has
+ * one cell more than separators, and needs one for each column, unless the table has widths. The text may
+ * be of any length; a row of more than `LONGEST_ROW` bytes is a `RangeError`. Careful: the end of a text
  * ends its last row. So cut a file only after rows.
  *
  * Throws `ParseError` for the first wrong cell in reading order, with its row and column, and with `header`
- * the column's name. With `onError: "skip"`, bad rows are skipped and counted.
+ * the column's name. With `onError: "skip"`, bad rows are skipped and counted. If the table has quotes, a
+ * stray one takes the lines up to the next stray one, or to the end of the text, into its row: if that is
+ * bad, they are all skipped, as one row.
  */
 export function parseTable<C extends readonly TableColumn[] | []>(
   text: Text,

@@ -2,8 +2,8 @@
 
     python3 data.py FILE NAME..
 
-The first line has the names, and lines end either way. Cells may stand within quotes, and those of
-other columns may be anything. After a bad row the exit status is 1.
+The first line has the names, and lines end either way. Cells may stand within quotes; those of
+other columns may be anything, if their quotes are in place. After a bad row the exit status is 1.
 """
 
 import sys

@@ -41,6 +41,7 @@ static void names()
     CHECK(header("\n\n,\n", skips) == "|| 4");
     skips.has_returns = 1;
     CHECK(header("\r\n\r\na", skips) == "a| 5");
+    CHECK(header("\n\r\n\na\r\n1\r\n", skips) == "a| 7");
     skips.has_returns = 0, skips.allows_returns = 1;
     CHECK(header("\r\n\na,b\r\n1,2\n", skips) == "a|b| 8");
     CHECK(header("\n1\n", commas()) == "| 1");
@@ -92,6 +93,21 @@ static void wrong_names()
     CHECK(message.find(", \"39\" and 961 more") != message.npos);
     for (int index = 0; index < 40; ++index) accents += "\xC3\xA9";
     CHECK(fault("id\n", {{accents, {}}}).find("no column \"" + accents.substr(0, 41) + "\" ..:") == 0);
+    // Names are escaped as cells are. One that has the return of its line has a hint.
+    const std::string crlf = "id,c\r\n1,2\r\n", seen = "the header has \"id\", \"c\\r\"";
+    const std::string hint = "; allows_returns may have to be set";
+    CHECK(fault(crlf, {{"c", {}}}) == "no column \"c\": " + seen + hint);
+    CHECK(fault(crlf, {{"d", {}}}) == "no column \"d\": " + seen);
+    auto allows = commas();
+    allows.allows_returns = 1;
+    CHECK(columns_by_header(crlf, allows, {{"c", {}}}).message().empty());
+    CHECK(columns_by_header("c\r", allows, {{"c", {}}}).message() == "no column \"c\": the header has \"c\\r\"");
+    const std::string hostile(99, '\x01'), tails(99, '\x80');
+    std::string shown;
+    for (int index = 0; index < 40; ++index) shown += "\\x01";
+    CHECK(fault(hostile + "\n", {{"\"\\\t\x7F", {}}})
+          == "no column \"\\\"\\\\\\t\\x7f\": the header has \"" + shown + "\" ..");
+    CHECK(fault("id\n", {{tails, {}}}).find("no column \"" + tails.substr(0, 43) + "\" ..:") == 0);
 }
 
 static void rows()

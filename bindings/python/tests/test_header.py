@@ -100,6 +100,11 @@ class Names(unittest.TestCase):
         for text in b"", b"\n", b"\n\n\n", b"\xef\xbb\xbf\n\n":
             with self.assertRaisesRegex(ValueError, "^there is no header: the text has no byte$"):
                 parse_table(text, COLUMNS, header=True, skips_empty_rows=True)
+        # A line feed alone is an empty row where each row has to have a return, too.
+        for front in b"\n", b"\n\r\n\n", b"\xef\xbb\xbf\n" + 300 * b"\r\n\n":
+            text = front + TEXT.replace(b"\n", b"\r\n")
+            self.assertEqual(self.found(text, COLUMNS, skips_empty_rows=True, has_returns=True),
+                             WANTED)
         self.assertEqual(self.found(b"\n\xef\xbb\xbfid\n1\n", {"\ufeffid": "u8"},
                                     skips_empty_rows=True), {"\ufeffid": [1]})
         for returns in "allows_returns", "has_returns":
@@ -126,7 +131,10 @@ class Names(unittest.TestCase):
             (b"id,amount\r1,2\r", COLUMNS, {},
              "the text has returns and no line feed, which has to end each line"),
             (b"id,amount\r\n", COLUMNS, {},
-             "the header has no column 'amount': it has 'id', 'amount\\r'"),
+             "the header has no column 'amount': it has 'id', 'amount\\r'; allows_returns may have"
+             " to be True"),
+            (b"id,amount\r\n", {"x": "u8"}, {},
+             "the header has no column 'x': it has 'id', 'amount\\r'"),
             (b",".join(b"%d" % k for k in range(50)), {"x": "u8"}, {}, "the header has no column"
              f" 'x': it has {', '.join(repr(str(k)) for k in range(40))} and 10 more"),
         ):

@@ -39,7 +39,7 @@ fn number_in_groups(bytes: &[u8], format: &NumberFormat, place: usize) -> Option
     number_without_two(bytes, place)
 }
 
-// The number of one to eight bytes that are digits, or digits around a separator that stands before the last `tail` of them.
+// The number of one to eight bytes that are digits, alone or in groups of three before the last `tail` of them.
 #[inline(always)]
 fn number_before(bytes: &[u8], format: &NumberFormat, tail: usize) -> Option<u32>
     requires some { 1 ≤ length bytes.now }
@@ -55,6 +55,9 @@ fn number_before(bytes: &[u8], format: &NumberFormat, tail: usize) -> Option<u32
     if size >= 4 && tail < size - 1 {
         let place = size - 1 - tail;
         if is_between(format, bytes[place]) {
+            if place > 4 && is_between(format, bytes[place - 4]) {
+                return number_without_two(bytes, place);
+            }
             return number_without(bytes, place);
         }
     }
@@ -67,7 +70,7 @@ fn number_before(bytes: &[u8], format: &NumberFormat, tail: usize) -> Option<u32
 fn numbers_in_groups(bytes: &[u8], format: &NumberFormat, place: usize) -> Option<(u32, u32)>
     requires some { 9 ≤ length bytes.now }
     requires few { length bytes.now ≤ 16 }
-    requires near { length bytes.now ≤ place + 3 }
+    requires near { length bytes.now ≤ place + 4 }
     requires behind { place + 2 ≤ length bytes.now }
     requires separator { format.now.digit_separator ≡ Some (slice_index bytes.now (place - 4)) }
     requires internal { format.now.integer_internal_digit_separator ≡ true }
@@ -77,11 +80,15 @@ fn numbers_in_groups(bytes: &[u8], format: &NumberFormat, place: usize) -> Optio
     ensures high { IfSome result (λ found. found.0 < 100000000) }
     ensures low { IfSome result (λ found. found.1 < 100000000) }
 {
-    // The last eight bytes hold the point, its places, which are one or two, three digits, the separator, and so many digits of the
-    // next group that as many as there are places end the first part.
+    // The last eight bytes hold the point, its places, three digits, the separator, and so many digits of the next group that as
+    // many as there are places end the first part. With three places there are none of them.
     let first = bytes.len() - 8;
     let high = number_before(&bytes[..first], format, bytes.len() - 1 - place)?;
-    let low = number_in_groups(&bytes[first..], format, place - first)?;
+    let low = if place == first + 4 {
+        number_without(&bytes[first + 1..], 3)?
+    } else {
+        number_in_groups(&bytes[first..], format, place - first)?
+    };
     Some((high, low))
 }
 
@@ -95,7 +102,7 @@ fn value_in_groups<T: Integer>(
 ) -> Option<T>
     requires few { length bytes.now ≤ 16 }
     requires before { 5 ≤ place }
-    requires near { length bytes.now ≤ place + 3 }
+    requires near { length bytes.now ≤ place + 4 }
     requires behind { place + 2 ≤ length bytes.now }
     requires separator { format.now.digit_separator ≡ Some (slice_index bytes.now (place - 4)) }
     requires internal { format.now.integer_internal_digit_separator ≡ true }
@@ -131,7 +138,10 @@ pub(crate) fn value_around_point<T: Integer>(
     ensures { IfSome result
         (λ value. IsValueAround T.TYPE is_negative format.now place bytes.now (T.number value)) }
 {
-    if place > 4 && bytes.len() <= place + 3 && is_between(format, bytes[place - 4]) {
+    if place > 4 && is_between(format, bytes[place - 4]) {
+        if bytes.len() > place + 4 {
+            return None;
+        }
         return value_in_groups::<T>(bytes, format, place, is_negative);
     }
     value_around::<T>(bytes, place, is_negative)

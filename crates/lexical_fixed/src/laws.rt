@@ -1,4 +1,4 @@
-//! What always holds between the answers to fixed-point numbers and to integers.
+//! What always holds of the answers to fixed-point numbers: of whole texts, of fronts, and of integers, which have no places.
 //!
 //! These calls do nothing. A proof that needs one of these laws calls it and has its clauses.
 ghost use Rattle.std.specs.Prelude.{◌≡◌, ◌≤◌, IfErr, List, Ok, length, ℕ, ℤ};

@@ -3,6 +3,7 @@ use Rattle.std.proofs.Common.{◌≡◌, ◌∙◌, ℕ, ◌+◌, ◌-◌, ◌�
 use Rattle.std.specs.Bool.{then_some}
 use Rattle.std.specs.Prelude.{nat_lt}
 use Rattle.lexical_fields.specs.Fields.{FieldView}
+use Rattle.lexical_tables.proofs.MarkedCells.{IsAhead, ahead_rest}
 use Rattle.lexical_tables.specs.ByColumn.{cells_by_width, cells_left, cells_of, first_start, lacks_cell, lacks_width}
 use Rattle.lexical_tables.specs.Quotes.{length_outside, pieces_outside}
 use Rattle.lexical_tables.specs.RowSoFar.{cells_behind}
@@ -85,6 +86,16 @@ all_left d row column passed low false there =
     let place : row.start + (length row.text - length (drop passed row.text)) ≡ row.start + passed =
     omega (arith, low, length-drop passed row.text) in
     ap (λ p. cells_left d.layout d.has_quotes column p (drop passed row.text)) place
+
+-- by what is left of the row
+pub left_passed : (d : Dialect) (row : RowView) (ahead : List ℕ) (column : ℕ) (ended : Bool) (rest : List ℕ)
+    → IsAhead row.text ahead rest → row.text ≡ take (length row.text) ahead → ended ≡ lacks_cell d.layout column rest
+    → left_in d row column ended rest ≡ cells_behind d row column (length row.text - length rest)
+left_passed d row ahead column ended rest here front lacks =
+    let passed = length row.text - length rest in
+    let is = ahead_rest row.text ahead rest here front in
+    ap (left_in d row column ended) is
+    ∙ all_left d row column passed (omega arith) ended (lacks ∙ ap (lacks_cell d.layout column) is)
 
 -- of the whole row
 pub cells_begin : (d : Dialect) (row : RowView) → cells_behind d row 0 0 ≡ cells_of d row

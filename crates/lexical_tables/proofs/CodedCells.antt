@@ -8,14 +8,14 @@ use Rattle.lexical_util.specs.Format.{Format}
 use Rattle.lexical_util.specs.Validity.{fault}
 use Rattle.lexical_fields.specs.Fields.{FieldView}
 use Rattle.lexical_tables.specs.ByColumn.{IsUsable, fault_in, kind_of, put_read}
-use Rattle.lexical_tables.specs.Cells.{answer_as, ends_in_digit, quote_fault, unless}
+use Rattle.lexical_tables.specs.Cells.{answer_as, content, ends_in_digit, quote_fault, unless}
 use Rattle.lexical_tables.specs.Codes.{AreCoded, AreQuotesRound, IsCodeIn, IsDecimal, IsNumberPut, IsNumeralUnder, coded_type, has_coded_bits, has_zero_rule}
 use Rattle.lexical_tables.specs.Quotes.{quote}
 use Rattle.lexical_tables.specs.declared.answers.CellFault.TheVariants.{MisplacedQuote}
 use Rattle.lexical_tables.specs.Readings.{FixedPoints, Integers, IsValid, Number, Reading, Texts}
 use Rattle.lexical_tables.specs.Targets.{TargetView}
 use Rattle.lexical_tables.specs.declared.dialect.Dialect.{Dialect}
-use Rattle.lexical_tables.proofs.numerals.PlainCells.{integers, plain_answer, quoted_answer}
+use Rattle.lexical_tables.proofs.numerals.PlainCells.{content_answer, integers, plain_answer, quoted_answer}
 use Rattle.lexical_tables.proofs.QuotesUnread.{round_fine}
 use Rattle.lexical_tables.proofs.Unquoted.{unquoted_fault}
 
@@ -30,6 +30,37 @@ pub unread_put : (d : Dialect) (row : ℕ) (cell : FieldView) (target : Option T
 unread_put d row cell None none fine =
     record { fault = ap (λ found. fault_in (unless found (Ok None))) (sym fine); target = refl }
 unread_put d row cell (Some target) none fine = absurd cc
+
+-- a cell of digits between blanks, where quotes have no meaning
+pub content_put : (d : Dialect) (code row : ℕ) (cell : FieldView) (held : List ℕ) (old new : Option TargetView)
+    → IsCodeIn d code old → 8 ≤ code → IsUsable (row + 1) old → d.has_quotes ≡ false
+    → held ≡ (content false d.allows_blanks cell).text → IsNumberPut code row held old new → IsCellPut d row cell old new
+content_put d code row cell held None new coded read usable none is put = absurd (coded.column.read read)
+content_put d code row cell held (Some target) new coded read usable none is put = record {
+  fault = ap fault_in (answer_is target.reading refl);
+  target = put.put ∙ ap (λ a. Some (put_read row a target)) (sym (answer_is target.reading refl));
+}
+  where
+    may_miss : Bool
+    may_miss = is_some target.present
+
+    as_kind : AreCoded code target.reading × (may_miss ≡ has_coded_bits code)
+    as_kind = coded.column.read read
+
+    no_mark : may_miss ≡ true → ends_in_digit d.missing.now ≡ false
+    no_mark misses = coded.no_number read (sym as_kind.1 ∙ misses)
+
+    answer_is : (reading : Reading) → target.reading ≡ reading
+        → answer_as d (Some (kind_of target)) cell ≡ Ok (Some (Number (with_sign put.is_negative put.number)))
+    answer_is (Integers format type) at =
+        let coded_as : AreCoded code (Integers format type) = subst (AreCoded code) at as_kind.0 in
+        ap (λ r. answer_as d (Some (record { reading = r; may_miss = may_miss })) cell) at
+        ∙ ap (λ t. answer_as d (Some (integers format t may_miss)) cell) coded_as.1
+        ∙ content_answer d format (coded_type code) may_miss cell put.is_negative put.number none
+        (subst (IsNumeralUnder format put.is_negative put.number) is (put.numeral format coded_as.0))
+        (subst IsValid at usable.0) coded_as.0.plain coded_as.0.decimal put.fits put.minus no_mark
+    answer_is (FixedPoints fixed type) at = absurd (subst (AreCoded code) at as_kind.0)
+    answer_is Texts at = absurd (subst (AreCoded code) at as_kind.0)
 
 module _ (start size : ℕ) (ahead : List ℕ) where
   abbrev cell : FieldView

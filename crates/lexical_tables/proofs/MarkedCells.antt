@@ -58,6 +58,15 @@ ahead_starts row ahead passed low front =
           ∙ sym (ap (λ n. take n (drop (length row - n) ahead)) size ∙ ap (λ k. take left (drop k ahead)) at);
     }
 
+-- what is left is the row behind what was passed
+pub ahead_rest : (row ahead rest : List ℕ) → IsAhead row ahead rest → row ≡ take (length row) ahead
+    → rest ≡ drop (length row - length rest) row
+ahead_rest row ahead rest here front =
+    let from = length row - length rest in
+    let whole : from + length rest ≡ length row = omega (arith, here.within) in
+    here.front ∙ sym (drop-take from (length rest) ahead)
+    ∙ ap (drop from) (ap (λ k. take k ahead) whole ∙ sym front)
+
 -- behind a cell
 pub behind_ahead : (row ahead rest behind : List ℕ) → IsAhead row ahead rest
     → behind ≡ drop (length rest - length behind) rest → length behind ≤ length rest → IsAhead row ahead behind

@@ -15,6 +15,9 @@ use lexical_parse_integer::quick::value_if_short;
 // How many bytes have to follow a number that is read as words.
 const ROOM_BEHIND: usize = 17;
 
+// How many bytes the longest number has that is read near the end of a text: sixteen digits behind a minus.
+const LONGEST_NEAR_END: usize = 17;
+
 // `put_at_once` near the end of a text, as all of a row is that a caller reads alone. Out of line, and the format by value, so
 // that other cells keep theirs in registers.
 #[inline(never)]
@@ -71,7 +74,7 @@ pub fn put_at_once<T: ParseInteger>(
     ensures kept { result ≡ false → values.new ≡ values.old }
 {
     if ahead.len() - size < ROOM_BEHIND {
-        if size > ROOM_BEHIND {
+        if size > LONGEST_NEAR_END {
             return false;
         }
         return put_near_end::<T>(values, row, ahead, size, *format);

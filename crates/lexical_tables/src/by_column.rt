@@ -18,6 +18,7 @@ use crate::misplaced::quote_fault;
 use crate::pass::{marked_separator, read_unmarked_rows};
 use crate::rows::{Row, first_row};
 use crate::targets::TableColumn;
+use crate::wide_rows::{has_widths, read_wide_rows};
 use lexical_parse_integer::{Error, Options};
 
 // Puts the number of what a cell holds into the row's place, or returns its fault.
@@ -263,7 +264,7 @@ pub(crate) fn read_by_column<C: TableColumn>(
 // returns. The first `first` columns and `passed` bytes of the row were read before. `ahead` begins
 // with the row.
 #[inline(always)]
-fn read_cells<C: TableColumn>(
+pub(crate) fn read_cells<C: TableColumn>(
     row: &Row<'_>,
     ahead: &[u8],
     passed: usize,
@@ -357,10 +358,11 @@ pub(crate) fn read_rest<'a, C: TableColumn>(
 
 /// Reads a table's columns into slices of their own, for at most `rows` rows.
 ///
-/// Each cell of a row has a target, or none: then it isn't read, and may hold any bytes. So it is with cells
-/// behind the last target. The number of a cell is put at its row's place in the target's slice, and all else
-/// in the slices is as it was, also after a fault: then the numbers are those of all cells before the wrong
-/// one. Where the text has more rows than are asked for, `stop` is where the next one starts.
+/// Each cell of a row has a target, or none: then it isn't read, and may hold any bytes but what ends it, if its
+/// quotes are in place where these have a meaning. So it is with cells behind the last target. The number of a
+/// cell is put at its row's place in the target's slice, and all else in the slices is as it was, also after a
+/// fault: then the numbers are those of all cells before the wrong one. Where the text has more rows than are
+/// asked for, `stop` is where the next one starts.
 ///
 /// The format of each target has to be valid, and its slice and its bits have to have room for
 /// `rows` rows.
@@ -383,7 +385,10 @@ pub fn read_columns<C: TableColumn>(
     ensures goes_on { IfOk result (StopsAt dialect.now rows text.now) }
 {
     let Some(separator) = marked_separator(text, dialect) else {
-        return read_unmarked_rows(text, dialect, options, rows, targets);
+        if has_widths(text, dialect) {
+            return read_wide_rows(text, dialect, options, rows, targets);
+        }
+        return read_unmarked_rows::<C, false>(text, &[], dialect, options, rows, targets);
     };
     if dialect.has_quotes {
         return read_rows::<C, true>(text, separator, dialect, options, rows, targets);

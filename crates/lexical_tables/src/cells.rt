@@ -1,7 +1,7 @@
 //! The cells of a row, found one after another.
 
-ghost use Rattle.std.specs.Prelude.{◌≡◌, ◌≢◌, ◌==◌, ◌+◌, ◌-◌, ◌<◌, ◌≤◌, ◌^◌, ℕ, [], ◌∷◌, IsTrue, false, length, take, drop, slice_index, if◌then◌else◌};
-ghost use Rattle.lexical_tables.specs.ByColumn.{cells_by_width, cells_left, column_count, lacks_cell, lacks_width};
+ghost use Rattle.std.specs.Prelude.{◌≡◌, ◌≢◌, ◌==◌, ◌+◌, ◌-◌, ◌<◌, ◌≤◌, ◌^◌, ℕ, [], ◌∷◌, IsTrue, None, false, length, take, drop, slice_index, if◌then◌else◌};
+ghost use Rattle.lexical_tables.specs.ByColumn.{cells_by_width, cells_left, column_count, lacks_cell, lacks_width, separator_of};
 ghost use Rattle.lexical_tables.specs.RowCells.{most_cells};
 ghost use Rattle.lexical_tables.specs.Quotes.{length_outside, quote};
 
@@ -166,6 +166,8 @@ pub(crate) fn next_cell<'a>(
         (place + (length rest.now - length result.behind.now)) result.behind.now) }
     ensures ended { result.ended ≡ false
         → lacks_cell dialect.now.layout (column + 1) result.behind.now ≡ false }
+    ensures wide { separator_of dialect.now.layout ≡ None
+        → result.ended ≡ lacks_cell dialect.now.layout (column + 1) result.behind.now }
     ensures front { result.text.now ≡ take (length result.text.now) ahead.now }
     ensures within { length result.text.now ≤ length rest.now }
     ensures left { length result.behind.now ≤ length rest.now }

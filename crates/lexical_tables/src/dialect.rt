@@ -46,7 +46,7 @@ pub struct Dialect<'a> {
     /// Whether a carriage return may stand before a line feed that ends a row: then it is no byte of the row. Any other is
     /// a byte of its cell, as at the text's end. Where `has_returns` asks for one, this changes nothing.
     pub allows_returns: bool,
-    /// What stands for a missing number, in columns that have bits for it.
+    /// What stands for a missing number or text, in columns that have bits for it.
     pub missing: &'a [u8],
 }
 

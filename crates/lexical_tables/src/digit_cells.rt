@@ -5,16 +5,20 @@ ghost use Rattle.lexical_util.specs.Format.{Format};
 ghost use Rattle.lexical_fields.specs.Numerals.{IsNumeral};
 ghost use Rattle.lexical_tables.specs.Amounts.{IsAmountsIn};
 ghost use Rattle.lexical_tables.specs.ByColumn.{IsUsable, fault_in, kind_of, put_read};
-ghost use Rattle.lexical_tables.specs.Cells.{answer_as, quote_fault};
+ghost use Rattle.lexical_tables.specs.Cells.{answer_as, quote_fault, view_of_cell};
 ghost use Rattle.lexical_tables.specs.Codes.{AreQuotesRound, IsCodeIn, IsDecimal, IsNumberPut, IsNumeralUnder, IsReadAs, has_zero_rule};
 
 use crate::codes::{AMOUNTS, BARE, NOT_READ, PARSED, TEXTS, U8, WITH_ZERO_RULE};
+use crate::content::{Cell, content};
 use crate::dialect::Dialect;
 use crate::known_cells::{read_bare_cell, read_parsed_cell, read_text_cell};
 use crate::quotes::shows_no_quote;
 use crate::targets::TableColumn;
 use lexical_fields::{long_number_of_front, number_of_front};
 use lexical_parse_integer::Options;
+
+// How many bytes have to follow digits that are read as words.
+const ROOM_BEHIND: usize = 17;
 
 // The text behind the first quote of a cell, and how many of its bytes the cell has between its
 // quotes. Where no two quotes stand around what the cell holds, or quotes have no meaning, these
@@ -206,5 +210,44 @@ pub(crate) fn read_long_coded<C: TableColumn>(
         held,
         count,
         long_number_of_front(held, count),
+    )
+}
+
+// Reads a cell at once where quotes have no meaning, and what it holds is up to twelve digits alone or behind a minus, and returns
+// whether it did.
+#[inline(always)]
+pub(crate) fn read_unquoted<C: TableColumn>(
+    target: &mut C,
+    code: u8,
+    row: usize,
+    cell: Cell<'_>,
+    dialect: &Dialect<'_>,
+) -> bool
+    requires code { IsCodeIn dialect.now code (C.target target.old) }
+    requires usable { IsUsable (row + 1) (C.target target.old) }
+    requires front { cell.text.now ≡ take (length cell.text.now) cell.ahead.now }
+    requires fits { cell.start + length cell.text.now < 2 ^ 64 }
+    ensures fault { IsTrue result → fault_in (answer_as dialect.now
+        (option_map kind_of (C.target target.old)) (view_of_cell cell.entry)) ≡ None }
+    ensures target { IsTrue result → C.target target.new ≡ option_map (put_read row
+        (answer_as dialect.now (option_map kind_of (C.target target.old))
+        (view_of_cell cell.entry))) (C.target target.old) }
+    ensures kept { result ≡ false → C.target target.new ≡ C.target target.old }
+{
+    if code < U8 || dialect.has_quotes {
+        return false;
+    }
+    let held = content(cell, false, dialect.allows_blanks);
+    let size = held.text.len();
+    if held.ahead.len() - size < ROOM_BEHIND {
+        return false;
+    }
+    put_found(
+        target,
+        code,
+        row,
+        held.ahead,
+        size,
+        number_of_front(held.ahead, size),
     )
 }

@@ -46,6 +46,7 @@ mod rows;
 mod skipping;
 mod targets;
 mod text_targets;
+mod wide_rows;
 
 pub use alone::columns_alone;
 pub use amounts::{is_quick, units_of_front};

@@ -1,7 +1,7 @@
 //! Rows whose cells are found in one pass, and whose numbers are mostly read at once.
 
 ghost use Rattle.std.specs.Prelude.{◌≡◌, ◌≢◌, ◌==◌, ◌+◌, ◌-◌, ◌/◌, ◌<◌, ◌≤◌, ◌^◌, ◌&&◌, ℕ, IfOk, IfSome, IsTrue, None, Some, drop, false, length, map, not, slice_index, take, true};
-ghost use Rattle.lexical_tables.specs.ByColumn.{AreUsable, StopsAt, answer_at, column_count, columns_answer, columns_put, end_fault, fault_in, kinds_of, put_read_at, put_row, row_fault, row_values};
+ghost use Rattle.lexical_tables.specs.ByColumn.{AreUsable, StopsAt, answer_at, column_count, columns_answer, columns_put, end_fault, fault_in, kinds_of, put_read_at, put_row, row_fault, row_values, separator_of};
 ghost use Rattle.lexical_tables.specs.Codes.{AreCodes};
 ghost use Rattle.lexical_tables.specs.Ends.{AreEnds, AreEndsIf};
 ghost use Rattle.lexical_tables.specs.Quotes.{quote};
@@ -19,6 +19,7 @@ use crate::next_part::{Left, behind_part, next_part};
 use crate::row_end::{ReadOn, done, ends_wrong, not_done};
 use crate::rows::without_empty_rows;
 use crate::targets::TableColumn;
+use crate::wide_rows::read_wide_row;
 use lexical_parse_integer::Options;
 
 // The byte between cells, if one pass of marks finds these and the rows: a short text has no marks.
@@ -249,8 +250,15 @@ pub(crate) fn read_row<'a, C: TableColumn, const HAS_QUOTES: bool, const HAS_CAL
         );
         return behind.left;
     }
-    let behind = read_rest(
-        start, text.text, 0, 0, index, dialect, options, targets, wrong,
+    let behind = read_unmarked_row::<C, false>(
+        start,
+        text.text,
+        index,
+        &[],
+        dialect,
+        options,
+        targets,
+        wrong,
     );
     Left {
         text: behind,
@@ -303,15 +311,52 @@ pub(crate) fn ask_codes<C: TableColumn>(
     put_codes(dialect, targets, codes)
 }
 
+// Puts what is read of the first row of a text into its place in the targets, up to the row's fault, which goes to `wrong`, and
+// returns what is behind the row. With `HAS_CODES` digits are read by the columns' codes.
+#[inline(always)]
+fn read_unmarked_row<'a, C: TableColumn, const HAS_CODES: bool>(
+    start: usize,
+    text: &'a [u8],
+    index: usize,
+    codes: &[u8],
+    dialect: &Dialect<'_>,
+    options: &Options,
+    targets: &mut [C],
+    wrong: &mut Option<TableError>,
+) -> &'a [u8]
+    requires fine { wrong.old ≡ None }
+    requires some { 0 < length text.now }
+    requires widths { IsTrue HAS_CODES → separator_of dialect.now.layout ≡ None }
+    requires codes { AreCodes dialect.now codes.now (map C.target targets.old) }
+    requires usable { AreUsable (index + 1) (map C.target targets.old) }
+    requires fits { start + length text.now < 2 ^ 64 }
+    ensures fault { wrong.new ≡ row_fault (kinds_of (map C.target targets.old)) dialect.now
+        index (first_row dialect.now start text.now) }
+    ensures targets { map C.target targets.new ≡ put_row index (row_values
+        (kinds_of (map C.target targets.old)) dialect.now
+        (first_row dialect.now start text.now)) (map C.target targets.old) }
+    ensures behind { result.now
+        ≡ behind_piece dialect.now.layout dialect.now.has_quotes text.now }
+    ensures shorter { length result.now < length text.now }
+{
+    if HAS_CODES {
+        return read_wide_row(start, text, index, codes, dialect, options, targets, wrong);
+    }
+    read_rest(start, text, 0, 0, index, dialect, options, targets, wrong)
+}
+
 // `read_columns` of a text without marks. Out of line: it makes no codes, and a short text doesn't pay for them.
 #[inline(never)]
-pub(crate) fn read_unmarked_rows<C: TableColumn>(
+pub(crate) fn read_unmarked_rows<C: TableColumn, const HAS_CODES: bool>(
     text: &[u8],
+    codes: &[u8],
     dialect: &Dialect<'_>,
     options: &Options,
     rows: usize,
     targets: &mut [C],
 ) -> Result<Table, TableError>
+    requires widths { IsTrue HAS_CODES → separator_of dialect.now.layout ≡ None }
+    requires codes { AreCodes dialect.now codes.now (map C.target targets.old) }
     requires usable { AreUsable rows (map C.target targets.old) }
     ensures answer { result ≡ columns_answer (kinds_of (map C.target targets.old)) dialect.now rows
         text.now }
@@ -324,8 +369,8 @@ pub(crate) fn read_unmarked_rows<C: TableColumn>(
     let mut wrong = None;
     while count < rows && !left.is_empty() {
         let start = text.len() - left.len();
-        let behind = read_rest(
-            start, left, 0, 0, count, dialect, options, targets, &mut wrong,
+        let behind = read_unmarked_row::<C, HAS_CODES>(
+            start, left, count, codes, dialect, options, targets, &mut wrong,
         );
         if let Some(error) = wrong {
             return Err(error);

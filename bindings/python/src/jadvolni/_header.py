@@ -79,7 +79,8 @@ def _behind_empty_rows(blocks: Iterator[Block], how: How) -> tuple[Iterator[Bloc
     many bytes and lines they have."""
     if not how.skips_empty_rows:
         return blocks, Part()
-    end = rb"\r\n" if how.has_returns else rb"\r?\n" if how.allows_returns else rb"\n"
+    # (an empty row that lacks its return is skipped too, even if the table asks for returns)
+    end = rb"\r?\n" if how.has_returns or how.allows_returns else rb"\n"
     empty, left, start, lines = re.compile(b"(?:%b)+" % end), b"", 0, 0
     for block in blocks:
         left += block
@@ -174,6 +175,9 @@ def _hint(names: Sequence[str], missing: Sequence[str], how: How) -> str:
     """What a message says of why a header may lack names."""
     if hint := hint_at(names[0].encode("utf-8", "surrogateescape")):
         return hint
+    has_none = not how.has_returns and not how.allows_returns
+    if has_none and names[-1] in [f"{name}\r" for name in missing]:
+        return "; allows_returns may have to be True"
     if not how.allows_blanks and {name.strip(" \t") for name in names}.issuperset(missing):
         return "; allows_blanks may have to be True"
     separator = byte_of(b"," if how.separator is None else how.separator)

@@ -136,19 +136,26 @@ def parse_table(
 
     text: a str, or contiguous bytes. Rows end with a line feed, which the last may lack.
     columns: a dict of the cells of a row, in their order. It maps each name to a type such as
-    "i64", a Fixed, a Text, a Column, or None to skip the cell. Numbers become NumPy arrays if NumPy
-    is installed, otherwise arrays of the module array. Texts become a TextColumn.
+    "i64", a Fixed, a Text, a Column, or None to skip the cell, whose quotes must be in place if the
+    table has any. Numbers become NumPy arrays if NumPy is installed, otherwise arrays of the module
+    array. Texts become a TextColumn.
     separator: the byte between cells, by default a comma. A row has one cell more than separators.
-    has_returns: each line feed follows a carriage return.
-    allows_returns: each line feed may follow a carriage return, so rows may end either way. Any
-    other carriage return belongs to its cell.
-    has_quotes: a cell may be enclosed in '"'.
-    allows_blanks: spaces and tabs may surround a number, or `missing`.
-    skips_empty_rows: a row without a byte doesn't count as a row.
-    missing: the cell that stands for a missing number or text, by default an empty one. It counts
-    only in a Column with may_miss. A column of numbers then is a Sparse.
+    has_returns: the line feed that ends a row follows a carriage return. Any other carriage return
+    belongs to its cell, even at the end of the text, and by default each does.
+    allows_returns: the line feed that ends a row may follow a carriage return, so rows may end
+    either way. Any other carriage return belongs to its cell, so none alone ends a row.
+    has_quotes: a cell may be enclosed in '"', and may then contain separators and line feeds. Its
+    width, if it has one, includes the quotes.
+    allows_blanks: spaces and tabs may surround a number, or `missing` in its place: within its
+    quotes if it has them, and not in a Text.
+    skips_empty_rows: a row without a byte before its end doesn't count as a row, and is no missing
+    cell. With has_returns it may end with a line feed alone. A row of blanks isn't empty.
+    missing: what stands for a missing number or text, by default an empty cell, and "" too if the
+    table has quotes. It is all that the cell holds, and counts only in a Column with may_miss. A
+    column of numbers then is a Sparse.
     widths: the width of each cell in bytes. Cells then have no separator.
-    is_records: rows have as many bytes as the widths together, at least one, and no line feed.
+    is_records: rows have as many bytes as the widths together, at least one, and no line feed: one
+    at the end of the text belongs to a further row.
     out: a dict of writable arrays with room for all rows, one for each column of numbers, and a
     Sparse of arrays for a Column with may_miss. The table has them, up to the last row.
     threads: how many threads read the text, each a part of it. The rows and errors are the same for
@@ -156,10 +163,14 @@ def parse_table(
     header: the first line, or the first of the records, names the columns. `columns` then selects
     by name, in any order, and other columns aren't read. A byte order mark may stand before the
     header, and so may empty rows that are skipped. The header's cells have the widths too, and with
-    allows_blanks, its names may have blanks around them.
+    allows_blanks, its names may have blanks around them. Its quotes and its return aren't checked:
+    a quote that never closes is a part of its name. Without a header a byte order mark belongs to
+    the first cell.
     on_error: "raise" raises the error of the first bad row. "skip" skips bad rows, and stores the
     others without gaps; the table's `bad_rows` counts those skipped. The place after the last row
-    in `out` may then change.
+    in `out` may then change. If the table has quotes, a stray one takes the lines up to the next
+    stray one, or to the end of the text, into its row: if that is bad, they are all skipped, as one
+    row.
     errors: with "skip", a list to which the ParseError of each bad row is appended, or a function
     that is called with it, in the order of the rows. If it raises, reading ends.
 

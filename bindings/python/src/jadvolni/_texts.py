@@ -23,12 +23,13 @@ if TYPE_CHECKING:
 
 @dataclasses.dataclass(frozen=True)
 class Text:
-    """The type of a column whose cells are texts, of any bytes. Calls on tables accept it as a
-    type, and return a TextColumn.
+    """The type of a column whose cells are texts, of any bytes but what ends a cell. Calls on
+    tables accept it as a type, and return a TextColumn.
 
     If a table has quotes, and a cell is enclosed in them, the text is what is within, with each
-    doubled quote as one. Blanks are part of it, even if a table allows them. In a Column with
-    may_miss a text that is exactly the table's `missing` is None.
+    doubled quote as one; a text with a quote must be enclosed. Blanks are part of it, even if a
+    table allows them. In a Column with may_miss a text that is exactly the table's `missing` is
+    None: by default an empty one, also within quotes.
 
     encoding: The encoding of the bytes, such as "cp1252". With None the texts are bytes.
 

@@ -111,7 +111,7 @@ impl core::error::Error for HeaderError {}
 /// The names of a table's columns, from its first row.
 ///
 /// That row follows the rules of the table: a name may be enclosed in quotes, and may then contain separators, line
-/// feeds and doubled quotes; blanks around it are ignored if the table allows them.
+/// feeds and doubled quotes; blanks around it, within its quotes if it has them, are ignored if the table allows them.
 #[derive(Debug, Clone, PartialEq, Eq)]
 pub struct Header {
     names: Vec<Vec<u8>>,

@@ -19,7 +19,8 @@ impl<'a> Dialect<'a> {
     /// Lines of one cell each, without separators: a column of numbers.
     pub const LINES: Self = Self::separated_by(b'\n');
 
-    /// Cells with a separator between them, in lines that end with a line feed.
+    /// Cells with a separator between them, in lines that end with a line feed, which ends a line even if it is the
+    /// separator. No line ends with a carriage return alone.
     pub const fn separated_by(separator: u8) -> Self {
         let table = sys::jadvolni_table {
             separator,
@@ -38,7 +39,8 @@ impl<'a> Dialect<'a> {
         Dialect(table, PhantomData)
     }
 
-    /// Cells of fixed widths in bytes, with nothing between them. There is at least one width, and one for each column.
+    /// Cells of fixed widths in bytes, with nothing between them: a width for each column. If there is none at all, the
+    /// cells have NULs between them.
     ///
     /// ```
     /// use jadvolni::{parse_table, Dialect, Table, TableColumn};
@@ -58,44 +60,53 @@ impl<'a> Dialect<'a> {
         dialect
     }
 
-    /// Whether a row is a record: as many bytes as the sum of the widths, with nothing between two rows.
+    /// Whether a row is a record: as many bytes as the sum of the widths, but at least one, with nothing between two
+    /// rows. A line feed at the end of a file belongs to a further record.
     pub const fn is_records(mut self, flag: bool) -> Self {
         self.0.is_records = flag as u8;
         self
     }
 
-    /// Whether each line feed has a carriage return before it. Otherwise a carriage return is a byte of its cell.
+    /// Whether the line feed that ends a row has a carriage return before it. Any other carriage return is a byte of its
+    /// cell, even at the end of the text; if neither this nor [`Dialect::allows_returns`] is set, each is.
     pub const fn has_returns(mut self, flag: bool) -> Self {
         self.0.has_returns = flag as u8;
         self
     }
 
-    /// Whether each line feed may have a carriage return before it, which then isn't a byte of its row. No effect if
-    /// [`Dialect::has_returns`] is set.
+    /// Whether the line feed that ends a row may have a carriage return before it, which then isn't a byte of the row.
+    /// No effect if [`Dialect::has_returns`] is set.
     pub const fn allows_returns(mut self, flag: bool) -> Self {
         self.0.allows_returns = flag as u8;
         self
     }
 
-    /// Whether a cell may be enclosed in quotes, `"`, and may then contain separators and line feeds.
+    /// Whether a cell may be enclosed in quotes, `"`, and may then contain separators and line feeds. Its width, if it
+    /// has one, includes the quotes. Don't combine this with a quote as the separator: after an odd number of them in a
+    /// row a line feed doesn't end it.
     pub const fn has_quotes(mut self, flag: bool) -> Self {
         self.0.has_quotes = flag as u8;
         self
     }
 
-    /// Whether spaces and tabs may surround a number, or what stands for a missing one.
+    /// Whether spaces and tabs may surround a number, or what stands for a missing one: within its quotes if it has
+    /// them, and not in a text, where they are bytes like any other.
     pub const fn allows_blanks(mut self, flag: bool) -> Self {
         self.0.allows_blanks = flag as u8;
         self
     }
 
-    /// Whether empty rows are skipped.
+    /// Whether rows without a byte before their end are skipped: they have no number, and are no missing cells. With
+    /// [`Dialect::has_returns`] such a row may end with a line feed alone. A row of blanks isn't empty. Otherwise an
+    /// empty row has one empty cell, or with widths those of width 0 before all others.
     pub const fn skips_empty_rows(mut self, flag: bool) -> Self {
         self.0.skips_empty_rows = flag as u8;
         self
     }
 
-    /// What stands for a missing number or text, byte for byte, in columns that have bits: by default an empty cell.
+    /// What stands for a missing number or text, byte for byte, in columns that have bits: all that a cell holds, within
+    /// its quotes if it has them, and for a number without its blanks. By default it is an empty cell, and `""` too if
+    /// the dialect has quotes.
     pub const fn missing(mut self, mark: &'a [u8]) -> Self {
         self.0.missing = mark.as_ptr().cast();
         self.0.missing_len = mark.len();
@@ -180,7 +191,8 @@ impl core::error::Error for TableError {}
 /// Reads the rows of a text, each column into a slice of its own, as long as all of these have room.
 ///
 /// A row has one cell more than separators, and needs one for each column. After a fault the numbers of all cells
-/// before the wrong one are in the slices, and the rest of these is unchanged.
+/// before the wrong one are in the slices, and the rest of these is unchanged. A byte order mark isn't skipped, except
+/// before a header: it belongs to the first cell.
 ///
 /// ```
 /// use jadvolni::{parse_table, Dialect, Error, Table, TableColumn, TableError};

@@ -10,7 +10,8 @@ use jadvolni_sys as sys;
 pub struct TableColumn<'a>(sys::jadvolni_table_column, PhantomData<&'a mut ()>);
 
 impl<'a> TableColumn<'a> {
-    /// A column that isn't read: its cells may hold any bytes but the separator and a line feed.
+    /// A column that isn't read: its cells may hold any bytes but what ends a cell; if the dialect has quotes, these
+    /// must be in place.
     pub const UNREAD: Self = TableColumn(UNREAD, PhantomData);
 
     /// A column that stores its numbers in a slice, under the standard format.
@@ -42,8 +43,8 @@ impl<'a> TableColumn<'a> {
         Self::into_slice(numbers, fixed)
     }
 
-    /// A column of texts, which stores in a slice where each is. A cell may hold any bytes, and doubled quotes within
-    /// its own.
+    /// A column of texts, which stores in a slice where each is. A text may contain any bytes but what ends its cell. If
+    /// the dialect has quotes, one with a quote must be enclosed in them, and its own are doubled.
     pub fn of_texts(texts: &'a mut [CellText]) -> Self {
         Self::into_slice(CellText::as_kept(texts), UNREAD)
     }

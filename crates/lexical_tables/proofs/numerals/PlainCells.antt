@@ -131,6 +131,19 @@ plain_answer d format type may_miss cell is_negative number n valid plain ten fi
     (numeral_whole d.has_quotes d.allows_blanks cell is_negative number n.numeral (begins_unquoted cell.text none))
     ∙ number_here d format type may_miss cell is_negative number n valid plain ten fits signed other
 
+-- a numeral that a cell holds, where quotes have no meaning
+pub content_answer : (d : Dialect) (format : Format) (type : IntegerType) (may_miss : Bool) (cell : FieldView)
+    (is_negative : Bool) (number : ℕ) → d.has_quotes ≡ false
+    → IsNumeralUnder format is_negative number (content false d.allows_blanks cell).text
+    → fault format ≡ None → IsPlain format → format.mantissa_radix ≡ 10 → IsNumber type (with_sign is_negative number)
+    → (is_negative ≡ true → type.is_signed ≡ true) → (may_miss ≡ true → ends_in_digit d.missing.now ≡ false)
+    → answer_as d (Some (integers format type may_miss)) cell ≡ Ok (Some (Number (with_sign is_negative number)))
+content_answer d format type may_miss cell is_negative number none n valid plain ten fits signed other =
+    let kind = integers format type may_miss in
+    ap (λ q. unless (quote_fault q true cell) (value_at d kind (content q d.allows_blanks cell))) none
+    ∙ number_here d format type may_miss (content false d.allows_blanks cell) is_negative number n valid plain ten fits signed
+    other
+
 -- ---- within quotes
 
 -- a text of two quotes

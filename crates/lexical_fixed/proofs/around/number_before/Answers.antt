@@ -1,7 +1,6 @@
-use Rattle.std.proofs.Common.{◌≡◌, ℕ, ◌-◌, IfSome, None, Option, arith, length, refl, subst}
+use Rattle.std.proofs.Common.{◌-◌, arith, length, refl}
 use Rattle.std.proofs.lemmas.Option.{IfSome_then}
-use Rattle.lexical_util.specs.Digit.{digit}
-use Rattle.lexical_fixed.proofs.AroundPoint.{digits_grouped, joined_worth, separated_worth, separator_grouped}
+use Rattle.lexical_fixed.proofs.AroundPoint.{digits_grouped, joined_worth, parted_grouped, parted_worth, separated_worth, separator_grouped}
 use Rattle.lexical_fixed.proofs.JoinedDigits.{joined_small}
 use Rattle.lexical_fixed.proofs.LastFractions.{joined_digits}
 use Rattle.lexical_fixed.proofs.around.number_before.Goals as goal
@@ -18,9 +17,26 @@ pub returns-then-is_between-clause-worth : goal.returns-then-is_between-clause-w
 returns-then-is_between-clause-worth c =
     let bytes = c.args.bytes.now in
     let place = length bytes - 1 - c.args.tail in
-    let none = subst (λ (o : Option ℕ). IfSome o (λ byte. digit 10 byte ≡ None)) (c.if-is_between.ensures.separator refl) c.requires.no_digit in
     IfSome_then c.number_without.result c.number_without.ensures.joined
-    (λ number joined. separated_worth place bytes number (omega (arith, c.if-tail-size.true)) none joined)
+    (λ number joined. separated_worth c.args.format.now place bytes number (c.if-is_between.ensures.separator refl) c.requires.no_digit (omega (arith, c.if-tail-size.true)) joined)
+
+pub returns-then-is_between-2-clause-grouped : goal.returns-then-is_between-2-clause-grouped
+returns-then-is_between-2-clause-grouped c =
+    let bytes = c.args.bytes.now in
+    let place = length bytes - 1 - c.args.tail in
+    IfSome_then c.number_without_two.result c.number_without_two.ensures.joined
+    (λ number joined. parted_grouped c.args.format.now (place - 4) place number bytes (c.if-is_between-2.ensures.separator refl) (c.if-is_between.ensures.internal refl) c.requires.no_digit
+    (omega (arith, c.if-place-gt4.true)) (omega (arith, c.if-place-gt4.true)) (omega (arith, c.if-tail-size.true)) joined
+    (c.if-is_between.ensures.separator refl) (omega (arith, c.requires.tail, c.if-tail-size.true)))
+
+pub returns-then-is_between-2-clause-worth : goal.returns-then-is_between-2-clause-worth
+returns-then-is_between-2-clause-worth c =
+    let bytes = c.args.bytes.now in
+    let place = length bytes - 1 - c.args.tail in
+    IfSome_then c.number_without_two.result c.number_without_two.ensures.joined
+    (λ number joined. parted_worth c.args.format.now (place - 4) place number bytes (c.if-is_between-2.ensures.separator refl) (c.if-is_between.ensures.internal refl) c.requires.no_digit
+    (omega (arith, c.if-place-gt4.true)) (omega (arith, c.if-place-gt4.true)) (omega (arith, c.if-tail-size.true)) joined
+    (c.if-is_between.ensures.separator refl))
 
 pub returns-clause-grouped : goal.returns-clause-grouped
 returns-clause-grouped c =

@@ -1,8 +1,6 @@
-use Rattle.std.proofs.Common.{◌≡◌, ◌∙◌, ◌+◌, ◌-◌, ap, arith, length, map, refl}
+use Rattle.std.proofs.Common.{◌≡◌, ◌∙◌, ◌+◌, ◌-◌, ap, arith, length, map}
 use Rattle.lexical_tables.specs.ByColumn.{kinds_of, put_row, row_fault, row_values}
 use Rattle.lexical_tables.specs.Rows.{first_row}
-use Rattle.lexical_tables.proofs.CellsLeft.{cells_begin}
-use Rattle.lexical_tables.proofs.ColumnSteps.{row_starts}
 use Rattle.lexical_tables.proofs.pass.read_row.Goals as goal
 
 pub returns-in-Some-clause-fault : goal.returns-in-Some-clause-fault
@@ -21,10 +19,3 @@ returns-in-Some-clause-targets g c =
     let at : c.args.start + length text - length text ≡ c.args.start = omega arith in
     c.read_marked_row-behind.ensures.targets
     ∙ ap (λ k. put_row c.args.index (row_values (kinds_of old) d (first_row d k text)) old) at
-
-pub returns-clause-fault : goal.returns-clause-fault
-returns-clause-fault g c =
-    let row = first_row c.args.dialect.now c.args.start c.args.text.text.now in
-    let old = map g.C.TableColumn.target c.args.targets.now in
-    (c.read_rest-behind.ensures.done (kinds_of old) old (row_starts (kinds_of old) c.args.dialect.now c.args.index row old _ refl
-    c.requires.usable (cells_begin c.args.dialect.now row))).fault_is
