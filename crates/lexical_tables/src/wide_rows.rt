@@ -48,7 +48,10 @@ struct Passed {
 #[inline(always)]
 fn passed_before(columns: usize, row: &Row<'_>, rest: &[u8]) -> Passed
     requires { length rest.now ≤ length row.now.text.now }
-    ensures { result ≡ record { columns = columns; bytes = length row.now.text.now - length rest.now } }
+    ensures { result ≡ record {
+      columns = columns;
+      bytes = length row.now.text.now - length rest.now;
+    } }
 {
     Passed {
         columns,
