@@ -287,7 +287,7 @@ typedef struct jadvolni_format {
     uint8_t required_integer_digits;
 
     /* Flag: a digit is required. If neither field is set, "" and "+" are 0, but a prefix alone is
-     * not. parse_front still needs a digit, except of an amount. */
+     * not. A front still needs a digit, except an amount's. */
     uint8_t required_mantissa_digits;
 
     /* Flag: a "+" is refused. */

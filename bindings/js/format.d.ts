@@ -21,8 +21,8 @@ export interface Fields {
   case_sensitive_base_suffix: boolean;
   /** A digit is required, as with required_mantissa_digits: one of the two is enough. */
   required_integer_digits: boolean;
-  /** A digit is required. If neither field is set, "" and "+" are 0, but a prefix alone is not.
-   * parse_front still needs a digit, except of an amount. */
+  /** A digit is required. If neither field is set, "" and "+" are 0, but a prefix alone is not. A
+   * front still needs a digit, except an amount's. */
   required_mantissa_digits: boolean;
   /** A "+" is refused. */
   no_positive_mantissa_sign: boolean;

@@ -8,7 +8,7 @@ export const FIELDS = [
   {"name": "case_sensitive_base_prefix", "kind": "flag", "meaning": "The prefix is matched exactly. Otherwise a letter matches in either case."},
   {"name": "case_sensitive_base_suffix", "kind": "flag", "meaning": "The suffix is matched exactly. Otherwise a letter matches in either case."},
   {"name": "required_integer_digits", "kind": "flag", "meaning": "A digit is required, as with required_mantissa_digits: one of the two is enough."},
-  {"name": "required_mantissa_digits", "kind": "flag", "meaning": "A digit is required. If neither field is set, \"\" and \"+\" are 0, but a prefix alone is not. parse_front still needs a digit, except of an amount."},
+  {"name": "required_mantissa_digits", "kind": "flag", "meaning": "A digit is required. If neither field is set, \"\" and \"+\" are 0, but a prefix alone is not. A front still needs a digit, except an amount's."},
   {"name": "no_positive_mantissa_sign", "kind": "flag", "meaning": "A \"+\" is refused."},
   {"name": "required_mantissa_sign", "kind": "flag", "meaning": "A text without a sign is refused."},
   {"name": "no_integer_leading_zeros", "kind": "flag", "meaning": "Leading zeros are refused, as in \"01\". After a prefix they aren't, nor in a number that a zero makes octal."},

@@ -58,7 +58,7 @@ class Format:
     required_integer_digits: A digit is required, as with required_mantissa_digits: one of the two
         is enough.
     required_mantissa_digits: A digit is required. If neither field is set, "" and "+" are 0, but a
-        prefix alone is not. parse_front still needs a digit, except of an amount.
+        prefix alone is not. A front still needs a digit, except an amount's.
     no_positive_mantissa_sign: A "+" is refused.
     required_mantissa_sign: A text without a sign is refused.
     no_integer_leading_zeros: Leading zeros are refused, as in "01". After a prefix they aren't, nor
