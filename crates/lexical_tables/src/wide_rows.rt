@@ -61,7 +61,7 @@ fn passed_before(columns: usize, row: &Row<'_>, rest: &[u8]) -> Passed
 
 // Reads the cell of a column as `read_unquoted` does, by the column's code.
 #[inline(always)]
-fn read_by_code<C: TableColumn>(
+fn read_wide_cell<C: TableColumn>(
     targets: &mut [C],
     codes: &[u8],
     column: usize,
@@ -91,7 +91,7 @@ fn read_by_code<C: TableColumn>(
 
 // Reads cells of a row by the codes of their columns, as long as each is read at once.
 #[inline(always)]
-fn read_cells_by_code<C: TableColumn>(
+fn read_wide_cells<C: TableColumn>(
     row: &Row<'_>,
     ahead: &[u8],
     index: usize,
@@ -126,7 +126,7 @@ fn read_cells_by_code<C: TableColumn>(
             text: next.text,
             ahead: left,
         };
-        if !read_by_code(targets, codes, column, index, cell, dialect) {
+        if !read_wide_cell(targets, codes, column, index, cell, dialect) {
             return passed_before(column, row, rest);
         }
         ended = next.ended;
@@ -166,7 +166,7 @@ pub(crate) fn read_wide_row<'a, C: TableColumn>(
     ensures shorter { length result.now < length text.now }
 {
     let (row, behind) = first_row(start, text, dialect);
-    let passed = read_cells_by_code(&row, text, index, codes, dialect, targets);
+    let passed = read_wide_cells(&row, text, index, codes, dialect, targets);
     *wrong = read_cells(
         &row,
         text,

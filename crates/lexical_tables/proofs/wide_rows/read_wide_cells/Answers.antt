@@ -9,7 +9,7 @@ use Rattle.lexical_tables.proofs.CodeSteps.{codes_put}
 use Rattle.lexical_tables.proofs.ColumnSteps.{after_cell}
 use Rattle.lexical_tables.proofs.MarkedCells.{ahead_starts, behind_ahead}
 use Rattle.lexical_tables.proofs.PutSteps.{use_put}
-use Rattle.lexical_tables.proofs.wide_rows.read_cells_by_code.Goals as goal
+use Rattle.lexical_tables.proofs.wide_rows.read_wide_cells.Goals as goal
 
 pub loop-column-init : goal.loop-column-init
 loop-column-init g c =
@@ -31,9 +31,9 @@ loop-column-preserved g c =
     let row = view_of_row c.args.row.now in
     let column = c.loop-column.column in
     let before = map g.C.TableColumn.target c.loop-column.targets in
-    let now = map g.C.TableColumn.target c.read_by_code.new.targets in
+    let now = map g.C.TableColumn.target c.read_wide_cell.new.targets in
     let next = c.next_cell-next in
-    let told = c.read_by_code.ensures in
+    let told = c.read_wide_cell.ensures in
     let more : column < count_in d = grind (arith, nat_tests) in
     let at = next_left d row column c.loop-column.ended c.loop-column.rest.now
     next.result.text.now next.result.behind.now next.result.ended c.loop-column.invariant.0.within
@@ -49,18 +49,18 @@ loop-column-preserved g c =
           _ _ at more now (sym (told.fault (search rules))) (told.targets (search rules)),
     )
 
-pub returns-then-not-read_by_code-clause-put : goal.returns-then-not-read_by_code-clause-put
-returns-then-not-read_by_code-clause-put g c = λ kinds old put.
+pub returns-then-not-read_wide_cell-clause-put : goal.returns-then-not-read_wide_cell-clause-put
+returns-then-not-read_wide_cell-clause-put g c = λ kinds old put.
     let d = c.args.dialect.now in
     let row = view_of_row c.args.row.now in
     let at = c.loop-column in
-    let now = map g.C.TableColumn.target c.read_by_code.new.targets in
+    let now = map g.C.TableColumn.target c.read_wide_cell.new.targets in
     subst (λ r. IsRowPut kinds d c.args.index row old now r.columns (cells_behind d row r.columns r.bytes))
     (sym c.passed_before.ensures)
     (subst (IsRowPut kinds d c.args.index row old now at.column)
     (left_passed d row c.args.ahead.now at.column at.ended at.rest.now at.invariant.0 c.requires.front at.invariant.1)
     (subst (λ seen. IsRowPut kinds d c.args.index row old seen at.column (left_in d row at.column at.ended at.rest.now))
-    (sym (c.read_by_code.ensures.kept c.if-not-read_by_code.true)) (at.invariant.4 kinds old put)))
+    (sym (c.read_wide_cell.ensures.kept c.if-not-read_wide_cell.true)) (at.invariant.4 kinds old put)))
 
 pub returns-clause-put : goal.returns-clause-put
 returns-clause-put g c = λ kinds old put.

@@ -7,7 +7,7 @@ use Rattle.lexical_tables.specs.Rows.{view_of_row}
 use Rattle.lexical_tables.specs.Targets.{TargetView}
 use Rattle.lexical_tables.proofs.CellsLeft.{left_in}
 use Rattle.lexical_tables.proofs.MarkedCells.{IsAhead}
-use Rattle.lexical_tables.proofs.wide_rows.read_cells_by_code.Given as goal
+use Rattle.lexical_tables.proofs.wide_rows.read_wide_cells.Given as goal
 
 -- `column` cells of the row were read
 abbrev pub invariant-loop-column : goal.invariant-loop-column
