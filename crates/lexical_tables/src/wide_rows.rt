@@ -1,7 +1,7 @@
 //! Rows whose cells have widths, and whose numbers are mostly read at once.
 
-ghost use Rattle.std.specs.Prelude.{◌≡◌, ◌+◌, ◌-◌, ◌<◌, ◌≤◌, ◌^◌, IfOk, IsTrue, List, None, Option, false, length, map, take};
-ghost use Rattle.lexical_tables.specs.ByColumn.{AreUsable, StopsAt, answer_at, columns_answer, columns_put, fault_in, kinds_of, put_read_at, separator_of};
+ghost use Rattle.std.specs.Prelude.{◌≡◌, ◌+◌, ◌-◌, ◌<◌, ◌≤◌, ◌^◌, IfOk, IsTrue, List, None, Option, false, is_none, is_some, length, map, option_map, take, true};
+ghost use Rattle.lexical_tables.specs.ByColumn.{AreUsable, StopsAt, answer_at, columns_answer, columns_put, fault_in, kinds_of, put_read_at, separator_of, wrong_cell};
 ghost use Rattle.lexical_tables.specs.Cells.{Kind, view_of_cell};
 ghost use Rattle.lexical_tables.specs.Codes.{AreCodes};
 ghost use Rattle.lexical_tables.specs.RowSoFar.{IsRowDone, IsRowPut, cells_behind};
@@ -9,7 +9,7 @@ ghost use Rattle.lexical_tables.specs.Rows.{behind_piece, first_row, view_of_row
 ghost use Rattle.lexical_tables.specs.Targets.{TargetView};
 
 use crate::answers::{Table, TableError};
-use crate::by_column::read_cells;
+use crate::by_column::{read_by_column, read_cells};
 use crate::cells::{column_count, lacks_cell, next_cell};
 use crate::codes::{CODED, UNKNOWN, put_codes};
 use crate::content::Cell;
@@ -61,7 +61,7 @@ fn passed_before(columns: usize, row: &Row<'_>, rest: &[u8]) -> Passed
 
 // Reads the cell of a column as `read_unquoted` does, by the column's code.
 #[inline(always)]
-fn read_wide_cell<C: TableColumn>(
+fn read_digits<C: TableColumn>(
     targets: &mut [C],
     codes: &[u8],
     column: usize,
@@ -89,7 +89,50 @@ fn read_wide_cell<C: TableColumn>(
     read_unquoted(&mut targets[column], codes[column], row, cell, dialect)
 }
 
-// Reads cells of a row by the codes of their columns, as long as each is read at once.
+// Reads the cell of a column, and returns whether it is right: else what is wrong is reported.
+#[inline(always)]
+#[tactic(auto, using(crate::proofs::MarkedCells::ahead_long))]
+fn read_wide_cell<C: TableColumn>(
+    targets: &mut [C],
+    codes: &[u8],
+    column: usize,
+    row: usize,
+    cell: Cell<'_>,
+    dialect: &Dialect<'_>,
+    options: &Options,
+    wrong: &mut Option<TableError>,
+) -> bool
+    requires fine { wrong.old ≡ None }
+    requires codes { AreCodes dialect.now codes.now (map C.target targets.old) }
+    requires usable { AreUsable (row + 1) (map C.target targets.old) }
+    requires front { cell.text.now ≡ take (length cell.text.now) cell.ahead.now }
+    requires fits { cell.start + length cell.text.now < 2 ^ 64 }
+    ensures right { result ≡ is_none (fault_in (answer_at dialect.now
+        (kinds_of (map C.target targets.old)) column (view_of_cell cell.entry))) }
+    ensures fault { wrong.new ≡ option_map (wrong_cell row column) (fault_in
+        (answer_at dialect.now (kinds_of (map C.target targets.old)) column
+        (view_of_cell cell.entry))) }
+    ensures targets { map C.target targets.new ≡ put_read_at row column (answer_at dialect.now
+        (kinds_of (map C.target targets.old)) column (view_of_cell cell.entry))
+        (map C.target targets.old) }
+{
+    if read_digits(targets, codes, column, row, cell, dialect) {
+        return true;
+    }
+    read_by_column(
+        targets,
+        column,
+        row,
+        cell.start,
+        cell.ahead,
+        cell.text.len(),
+        dialect,
+        options,
+        wrong,
+    )
+}
+
+// Reads the cells of a row that have a column, up to the row's first wrong one, which is reported.
 #[inline(always)]
 fn read_wide_cells<C: TableColumn>(
     row: &Row<'_>,
@@ -97,21 +140,30 @@ fn read_wide_cells<C: TableColumn>(
     index: usize,
     codes: &[u8],
     dialect: &Dialect<'_>,
+    options: &Options,
     targets: &mut [C],
+    wrong: &mut Option<TableError>,
 ) -> Passed
+    requires fine { wrong.old ≡ None }
     requires widths { separator_of dialect.now.layout ≡ None }
     requires codes { AreCodes dialect.now codes.now (map C.target targets.old) }
     requires usable { AreUsable (index + 1) (map C.target targets.old) }
     requires front { row.now.text.now ≡ take (length row.now.text.now) ahead.now }
     requires fits { row.now.start + length row.now.text.now < 2 ^ 64 }
-    ensures put { (kinds : List (Option Kind)) (old : List (Option TargetView))
+    ensures put { wrong.new ≡ None → (kinds : List (Option Kind)) (old : List (Option TargetView))
         → IsRowPut kinds dialect.now index (view_of_row row.now) old (map C.target targets.old)
         0 (cells_behind dialect.now (view_of_row row.now) 0 0)
         → IsRowPut kinds dialect.now index (view_of_row row.now) old (map C.target targets.new)
         result.columns (cells_behind dialect.now (view_of_row row.now) result.columns
         result.bytes) }
     ensures within { result.bytes ≤ length row.now.text.now }
-    ensures usable { AreUsable (index + 1) (map C.target targets.new) }
+    ensures usable { wrong.new ≡ None → AreUsable (index + 1) (map C.target targets.new) }
+    ensures done { is_some wrong.new ≡ true → (kinds : List (Option Kind))
+        (old : List (Option TargetView))
+        → IsRowPut kinds dialect.now index (view_of_row row.now) old (map C.target targets.old)
+        0 (cells_behind dialect.now (view_of_row row.now) 0 0)
+        → IsRowDone kinds dialect.now index (view_of_row row.now) old
+        (map C.target targets.new) wrong.new }
 {
     let columns = column_count(dialect);
     let mut rest = row.text;
@@ -126,7 +178,7 @@ fn read_wide_cells<C: TableColumn>(
             text: next.text,
             ahead: left,
         };
-        if !read_wide_cell(targets, codes, column, index, cell, dialect) {
+        if !read_wide_cell(targets, codes, column, index, cell, dialect, options, wrong) {
             return passed_before(column, row, rest);
         }
         ended = next.ended;
@@ -166,7 +218,10 @@ pub(crate) fn read_wide_row<'a, C: TableColumn>(
     ensures shorter { length result.now < length text.now }
 {
     let (row, behind) = first_row(start, text, dialect);
-    let passed = read_wide_cells(&row, text, index, codes, dialect, targets);
+    let passed = read_wide_cells(&row, text, index, codes, dialect, options, targets, wrong);
+    if wrong.is_some() {
+        return behind;
+    }
     *wrong = read_cells(
         &row,
         text,

@@ -1,4 +1,4 @@
-use Rattle.std.proofs.Common.{◌≡◌, ◌-◌, ◌+◌, List, Option, map}
+use Rattle.std.proofs.Common.{◌≡◌, ◌-◌, ◌+◌, List, None, Option, map}
 use Rattle.lexical_tables.specs.ByColumn.{AreUsable, column_count, lacks_cell}
 use Rattle.lexical_tables.specs.Cells.{Kind}
 use Rattle.lexical_tables.specs.Codes.{AreCodes}
@@ -16,6 +16,7 @@ invariant-loop-column g l =
     × (l.ended ≡ lacks_cell l.dialect.layout l.column l.rest)
     × AreCodes l.dialect l.codes (map g.C.TableColumn.target l.targets)
     × AreUsable (l.index + 1) (map g.C.TableColumn.target l.targets)
+    × (l.wrong ≡ None)
     × ((kinds : List (Option Kind)) (old : List (Option TargetView))
     → IsRowPut kinds l.dialect l.index (view_of_row l.row) old (map g.C.TableColumn.target l.initial.targets)
     0 (cells_behind l.dialect (view_of_row l.row) 0 0)

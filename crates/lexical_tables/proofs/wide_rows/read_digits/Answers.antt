@@ -3,7 +3,7 @@ use Rattle.std.proofs.lemmas.Bool.Decides.{nat_tests}
 use Rattle.lexical_tables.specs.ByColumn.{fault_in}
 use Rattle.lexical_tables.specs.Cells.{view_of_cell}
 use Rattle.lexical_tables.proofs.CellSteps.{answer_told, code_told, same_told, targets_told, usable_at}
-use Rattle.lexical_tables.proofs.wide_rows.read_wide_cell.Goals as goal
+use Rattle.lexical_tables.proofs.wide_rows.read_digits.Goals as goal
 
 pub read_unquoted-requires-clause-code : goal.read_unquoted-requires-clause-code
 read_unquoted-requires-clause-code g c =
