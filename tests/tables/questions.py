@@ -149,7 +149,9 @@ def random_text(chance: random.Random, dialect: Dialect,
     if chance.random() < 0.25:
         return bytes(chance.choices(ALPHABET, k=chance.randint(0, 24)))
     is_plain = chance.random() < 0.5
-    count = chance.choice((0, 1, 1, 2, 2, 3, 4, 5, 8, 12)) if chance.random() < 0.97 else 40
+    # Rows of widths are read by the codes of their columns in a longer text.
+    is_long = chance.random() < (0.3 if dialect.widths else 0.03)
+    count = 40 if is_long else chance.choice((0, 1, 1, 2, 2, 3, 4, 5, 8, 12))
     rows = [random_row(chance, dialect, is_plain, targets) for _ in range(count)]
     if dialect.skips_empty_rows or chance.random() < 0.05:
         rows.insert(chance.randint(0, len(rows)), chance.choice((b"\n", b"\r\n", b"\n\n")))
