@@ -219,9 +219,10 @@ pub(crate) fn put_end_fault(
 }
 
 // Reads a cell as `read_cell` does, the first `size` bytes of a text, where it isn't read at once, and returns whether it is
-// right: else what is wrong is reported. Out of line, to keep registers for the loop.
+// right: else what is wrong is reported. Out of line, to keep registers for the loop. `IS_WIDE` says who calls it, and so each
+// caller has a function of its own.
 #[inline(never)]
-pub(crate) fn read_by_column<C: TableColumn>(
+pub(crate) fn read_by_column<C: TableColumn, const IS_WIDE: bool>(
     targets: &mut [C],
     column: usize,
     row: usize,
@@ -262,9 +263,9 @@ pub(crate) fn read_by_column<C: TableColumn>(
 
 // Puts what is read of a row's cells into its place in the targets, up to the row's fault, which it
 // returns. The first `first` columns and `passed` bytes of the row were read before. `ahead` begins
-// with the row.
+// with the row. `IS_WIDE` is as in `read_by_column`.
 #[inline(always)]
-pub(crate) fn read_cells<C: TableColumn>(
+pub(crate) fn read_cells<C: TableColumn, const IS_WIDE: bool>(
     row: &Row<'_>,
     ahead: &[u8],
     passed: usize,
@@ -352,7 +353,7 @@ pub(crate) fn read_rest<'a, C: TableColumn>(
     ensures shorter { length result.now < length text.now }
 {
     let (row, behind) = first_row(start, text, dialect);
-    *wrong = read_cells(&row, text, passed, first, index, dialect, options, targets);
+    *wrong = read_cells::<C, false>(&row, text, passed, first, index, dialect, options, targets);
     behind
 }
 

@@ -257,7 +257,7 @@ pub(crate) fn read_left_cell<C: TableColumn>(
     if read_by_code(targets, codes, column, row, start, ahead, size, dialect) {
         return true;
     }
-    read_by_column(
+    read_by_column::<C, false>(
         targets, column, row, start, ahead, size, dialect, options, wrong,
     )
 }

@@ -119,7 +119,7 @@ fn read_wide_cell<C: TableColumn>(
     if read_digits(targets, codes, column, row, cell, dialect) {
         return true;
     }
-    read_by_column(
+    read_by_column::<C, true>(
         targets,
         column,
         row,
@@ -222,7 +222,7 @@ pub(crate) fn read_wide_row<'a, C: TableColumn>(
     if wrong.is_some() {
         return behind;
     }
-    *wrong = read_cells(
+    *wrong = read_cells::<C, true>(
         &row,
         text,
         passed.bytes,
