@@ -90,6 +90,7 @@ CASES = [
     Case("make install PREFIX=usr", "PREFIX=usr: it has to begin with a slash"),
     Case("make install PREFIX=", "PREFIX=: it has to begin with a slash"),
     Case("tools/gate.sh --help", "usage: tools/gate.sh"),
+    Case("env TMPDIR=/dev/null tools/gate.sh", "/dev/null/tmp."),
     Case("python3 tools/check_literals.py --help", "Reads each integer literal"),
     Case("packaging/dist.sh --help", "usage: packaging/dist.sh [check]"),
     Case("packaging/test_dist.sh --help", "usage: packaging/test_dist.sh"),
