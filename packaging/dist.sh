@@ -46,6 +46,7 @@ grep -qx "## $version" CHANGELOG.md || fail "CHANGELOG.md has no part for versio
 
 work=$(mktemp -d)
 trap 'rm -rf "$work"' EXIT
+trap 'exit 130' INT TERM HUP # (dash ends without the line above)
 rm -rf dist
 mkdir dist
 unlinked() { # PAGE: a page without its links to files that a package lacks
