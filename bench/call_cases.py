@@ -130,7 +130,7 @@ def case_of(line: str, section: str, named: dict[str, dict[str, int]]) -> Case:
 
 
 def read_cases(path: str = CASES) -> list[Case]:
-    """The cases of a table, of which no two are one. It ends the program at a bad line."""
+    """The cases of a table, no two alike. It ends the program at a bad line, or without one."""
     named, section, found = formats(), "", dict[str, Case]()
     with open(path, encoding="ascii") as lines:
         for number, line in enumerate(map(str.strip, lines), 1):
@@ -143,4 +143,6 @@ def read_cases(path: str = CASES) -> list[Case]:
                     sys.exit(f"{path}:{number}: {bad}: {line}")
                 if found.setdefault(line, case) is not case:
                     sys.exit(f"{path}:{number}: it stands there before: {line}")
+    if not found:
+        sys.exit(f"{path}: no case")
     return list(found.values())

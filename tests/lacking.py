@@ -68,6 +68,7 @@ CASES = [
     Case("python3 tools/check_c.py --lib nowhere", "nowhere/libjadvolni.a: make lib makes one"),
     Case("bench/run . nowhere", f"nowhere/bench/workloads.txt: {NEITHER}"),
     Case("bench/run . ..", NEITHER),
+    Case("bench/calls --keep . ..", "go each alone"),
     Case("bench/run .", "usage: "),
     Case("bench/run . .. x", "a number below 2^32"),
     Case("mkdir -p a/bench b/bench; echo job | tee a/bench/workloads.txt > b/bench/workloads.txt;"
@@ -130,6 +131,7 @@ CASES = [
          "No such file or directory"),
     Case("sed -i '$d' bench/calls.txt; printf '\\377' >> bench/calls.txt; bench/calls > out",
          "bench/calls: 'ascii' codec"),
+    Case("echo '# none' > bench/calls.txt; bench/calls > out", "bench/calls.txt: no case"),
     Case("rm bench/calls.txt; bench/calls --library LICENSE-MIT > out", "No such file"),
     Case("rm tools/fields.txt; python3 tools/documents.py > out",
          "tools/fields.txt: No such file"),
