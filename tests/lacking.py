@@ -98,6 +98,9 @@ CASES = [
     Case("packaging/assembly.sh", "usage: packaging/assembly.sh jadvolni.S VERDICT"),
     Case("packaging/sbom.sh", "usage: packaging/sbom.sh VERSION COMMIT TOOLCHAIN VERDICT"),
     Case("packaging/as_user.sh", "usage: as_user.sh FOLDER [packages]"),
+    Case("sed -i '$d' docs/CONTRACTS.md; cp docs/CONTRACTS.md kept; (ulimit -f 1;"
+         " python3 tools/documents.py); cmp kept docs/CONTRACTS.md && echo 'the old page stays';"
+         " mv kept docs/CONTRACTS.md; rm docs/*.new; exit 1 > out", "the old page stays"),
     # From here on the tree has a release of one file, and then a bad line.
     Case("mkdir dist; sha256sum /dev/null > dist/SHA256SUMS; packaging/test_dist.sh",
          "lacks: dist/*.deb (make dist writes them where debhelper and dh-python are)"),
