@@ -70,9 +70,13 @@ def read_how(words: str) -> dict[str, int]:
 
 def numbers_of(kind: str, columns: int) -> list[Number]:
     """What draws the numbers of each column."""
-    if kind == "ledger":
-        return tables.LEDGER[:columns]
-    return [{"realistic": realistic, "short": short}[kind]] * columns
+    draws: dict[str, list[Number]] = {
+        "ledger": tables.LEDGER, "realistic": [realistic] * columns, "short": [short] * columns}
+    if kind not in draws:
+        raise Bad(f"no such text: {kind}")
+    if not 1 <= columns <= len(draws[kind]):
+        raise Bad(f"a made text has from 1 column on, and one of ledger up to {len(tables.LEDGER)}")
+    return draws[kind][:columns]
 
 
 def made_cell(draw: Number, asked: dict[str, str], random_: random.Random) -> str:
@@ -91,6 +95,8 @@ def made_text(words: list[str], how: dict[str, int]) -> bytes:
     asked = {key: value for key, _, value in (word.partition("=") for word in more)}
     random_ = random.Random(SEED)
     draws = numbers_of(kind, how["columns"])
+    if "rows" not in asked:
+        raise Bad("a made text needs rows=N")
     end = "\r\n" if how["returns"] else "\n"
     before, last = {**asked, "missing": "0"}, asked
     rows = [[made_cell(draw, before, random_) for draw in draws[:-1]]
@@ -111,9 +117,9 @@ def separator(how: dict[str, int]) -> int:
 
 def case_of(line: str, section: str, named: dict[str, dict[str, int]]) -> Case:
     """The case of a line: CALL | TYPE | FORMAT | TEXT, or HOW before the text."""
-    call, kind, form, *more = line.split(" | ")
-    if len(more) not in (1, 2):
+    if len(line.split(" | ")) not in (4, 5):
         raise Bad("no case")
+    call, kind, form, *more = line.split(" | ")
     how = read_how(" ".join(more[:-1]))
     text = read_text(more[-1]) if more[-1].startswith('"') else made_text(more[-1].split(), how)
     how["separator"], how["rows"] = separator(how), row_count(how, text)
@@ -124,7 +130,7 @@ def case_of(line: str, section: str, named: dict[str, dict[str, int]]) -> Case:
 
 
 def read_cases(path: str = CASES) -> list[Case]:
-    """The cases of a table, of which no two are one. It ends the program at a bad line."""
+    """The cases of a table, no two alike. It ends the program at a bad line, or without one."""
     named, section, found = formats(), "", dict[str, Case]()
     with open(path, encoding="ascii") as lines:
         for number, line in enumerate(map(str.strip, lines), 1):
@@ -137,4 +143,6 @@ def read_cases(path: str = CASES) -> list[Case]:
                     sys.exit(f"{path}:{number}: {bad}: {line}")
                 if found.setdefault(line, case) is not case:
                     sys.exit(f"{path}:{number}: it stands there before: {line}")
+    if not found:
+        sys.exit(f"{path}: no case")
     return list(found.values())

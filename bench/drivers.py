@@ -81,7 +81,7 @@ def room() -> str:
     ours = os.path.join(tempfile.gettempdir(), f"jadvolni-bench-{os.getuid()}")
     taken = os.environ.get("BENCH_ROOM") or ours
     os.makedirs(taken, mode=0o700, exist_ok=True)
-    if taken == ours and os.stat(taken).st_uid != os.getuid():
+    if taken == ours and os.lstat(taken).st_uid != os.getuid():
         sys.exit(f"bench: {taken} is another user's: BENCH_ROOM names another folder")
     try:
         fcntl.flock(os.open(taken, os.O_RDONLY), fcntl.LOCK_EX | fcntl.LOCK_NB)

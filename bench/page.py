@@ -9,6 +9,7 @@ import shutil
 import subprocess
 import sys
 from dataclasses import dataclass
+from typing import Callable
 
 PAGE = os.path.join(os.path.dirname(os.path.dirname(os.path.abspath(__file__))), "docs", "SPEED.md")
 PART = r"(<!-- measured: {} writes this -->\n)(?s:.*?)(<!-- end of what was measured -->)"
@@ -19,6 +20,16 @@ def need(*programs: str) -> None:
     lacking = [name for name in programs if not shutil.which(name)]
     if lacking:
         sys.exit(f"bench: it needs {', '.join(lacking)}")
+
+
+def ended(main: Callable[[], int]) -> int:
+    """What a script answers, or a sentence where a file or a program isn't as it has to be."""
+    try:
+        return main()
+    except (OSError, UnicodeDecodeError, subprocess.CalledProcessError) as error:
+        sys.exit(f"bench: {error}")
+    except KeyboardInterrupt:
+        sys.exit("bench: broken off")
 
 
 def instructions(words: list[str], path: str = os.devnull) -> int:

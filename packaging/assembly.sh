@@ -13,6 +13,7 @@ kit=$(dirname "$(dirname "$(readlink -f "$(command -v "${RT:-rt}")")")")
 [ -e "$kit/bin/rtlib.py" ] || { echo "${RT:-rt} isn't a toolchain's own rt, which this copies" >&2; exit 1; }
 work=$(mktemp -d)
 trap 'rm -rf "$work"' EXIT
+trap 'exit 130' INT TERM HUP # (dash ends without the line above)
 
 # A toolchain of links, but for a clang that also writes assembly, and for rt and rtlib.py, which look for the
 # toolchain beside themselves.

@@ -8,6 +8,8 @@
 set -eu
 export LC_ALL=C TZ=UTC PYTHONDONTWRITEBYTECODE=1 PIP_DISABLE_PIP_VERSION_CHECK=1
 unset CPPFLAGS INCLUDEDIR LIBDIR MANDIR MAKEFLAGS # which would change the archives
+# So would these settings of a user.
+export GIT_CONFIG_COUNT=2 GIT_CONFIG_KEY_0=tar.umask GIT_CONFIG_VALUE_0=0002 GIT_CONFIG_KEY_1=log.showSignature GIT_CONFIG_VALUE_1=false
 umask 022
 case $* in '' | check) ;; *) echo "usage: packaging/dist.sh [check]" >&2; exit 2 ;; esac
 cd "$(dirname "$0")/.."
@@ -44,6 +46,7 @@ grep -qx "## $version" CHANGELOG.md || fail "CHANGELOG.md has no part for versio
 
 work=$(mktemp -d)
 trap 'rm -rf "$work"' EXIT
+trap 'exit 130' INT TERM HUP # (dash ends without the line above)
 rm -rf dist
 mkdir dist
 unlinked() { # PAGE: a page without its links to files that a package lacks
@@ -115,7 +118,7 @@ if has 'the Debian packages' dpkg-buildpackage dh dh_python3; then
     tree=$work/debian/jadvolni maintainer=$(git log -1 --format='%an <%ae>')
     mkdir "$work/debian" "$tree"
     cp -R packaging/debian "$tree"
-    sed -i "s/@MAINTAINER@/$maintainer/" "$tree/debian/control"
+    sed -i "s/@MAINTAINER@/$(printf '%s\n' "$maintainer" | sed 's,[\/&],\\&,g')/" "$tree/debian/control"
     printf 'jadvolni (%s) unstable; urgency=medium\n\n  * Version %s.\n\n -- %s  %s\n' "$version" "$version" \
         "$maintainer" "$(date -Rud "@$SOURCE_DATE_EPOCH")" > "$tree/debian/changelog"
     (cd "$tree" && TREE=$top WHEEL=$work/wheel.d dpkg-buildpackage -b -us -uc -d) > "$work/log" 2>&1 ||

@@ -28,6 +28,7 @@ if has jq && ! jq -e -f packaging/sbom_check.jq dist/*.spdx.json > /dev/null; th
 fi
 given=$(mktemp -d)
 trap 'rm -rf "$given"' EXIT
+trap 'exit 130' INT TERM HUP # (dash ends without the line above)
 
 # The gate of the released sources, which are no clone, as far as it runs with an `rt` that only knows `fmt`.
 tar xzf dist/jadvolni-*-sources.tar.gz -C "$given"

@@ -2,6 +2,8 @@
 """Breaks off tools/build.sh, as Ctrl-C does, and checks that no toolchain goes on below it.
 
 A toolchain that says its process and then sleeps stands in for the real one, in a copy of the tree.
+Of the scripts that test the programs it checks that they take their folders away: there such a
+program stands in.
 """
 from __future__ import annotations
 
@@ -18,6 +20,8 @@ TOP = os.path.dirname(os.path.dirname(os.path.abspath(__file__)))
 TOOLCHAIN = "#!/bin/sh\necho $$ > began.new\nmv began.new began\nexec sleep 60\n"
 CRATE = "lexical_util"
 SECONDS = 20
+# The scripts that test a program, in a folder of their own.
+TESTS = ("jad.sh", "shell_snippet.sh")
 
 
 def is_soon(is_so: Callable[[], bool]) -> bool:
@@ -37,6 +41,13 @@ def is_running(process: int) -> bool:
         return False
 
 
+def begun(words: list[str], **more: str) -> subprocess.Popen[bytes]:
+    """A script that runs in a group of its own."""
+    return subprocess.Popen(
+        words, env={**os.environ, **more}, stdout=subprocess.DEVNULL, stderr=subprocess.DEVNULL,
+        start_new_session=True, preexec_fn=lambda: signal.signal(signal.SIGINT, signal.SIG_DFL))
+
+
 def broken_off(tree: str) -> str:
     """What is wrong with a build that is broken off; nothing where it ends with all below it."""
     folder, toolchain = os.path.join(tree, "crates", CRATE), os.path.join(tree, "rt")
@@ -48,10 +59,7 @@ def broken_off(tree: str) -> str:
     with open(toolchain, "w", encoding="ascii") as file:
         file.write(TOOLCHAIN)
     os.chmod(toolchain, 0o755)
-    build = subprocess.Popen(
-        [os.path.join(tree, "tools", "build.sh"), CRATE], env={**os.environ, "RT": toolchain},
-        stderr=subprocess.DEVNULL, start_new_session=True,
-        preexec_fn=lambda: signal.signal(signal.SIGINT, signal.SIG_DFL))
+    build = begun([os.path.join(tree, "tools", "build.sh"), CRATE], RT=toolchain)
     if not is_soon(lambda: os.path.exists(began)):
         return "the toolchain isn't started"
     os.killpg(build.pid, signal.SIGINT)
@@ -64,15 +72,35 @@ def broken_off(tree: str) -> str:
     return "the toolchain goes on"
 
 
+def left_by(script: str, folder: str) -> str:
+    """What is wrong with a test that is broken off; nothing where its own folder goes with it."""
+    program, began = os.path.join(folder, "program"), os.path.join(folder, "began")
+    room = os.path.join(folder, "room")
+    os.mkdir(room)
+    with open(program, "w", encoding="ascii") as file:
+        file.write(f"#!/bin/sh\n: > {began}\nexec sleep 60\n")
+    os.chmod(program, 0o755)
+    test = begun([os.path.join(TOP, "tests", script), program], TMPDIR=room)
+    if not is_soon(lambda: os.path.exists(began)):
+        return f"{script} doesn't begin"
+    os.killpg(test.pid, signal.SIGINT)
+    test.wait(SECONDS)
+    return f"{script} leaves its folder" if os.listdir(room) else ""
+
+
 def main() -> int:
     """Says what is wrong, and answers the exit status."""
     if sys.argv[1:]:
         print(__doc__, file=sys.stderr)
         return 2
     with tempfile.TemporaryDirectory() as tree:
-        wrong = broken_off(tree)
-    print(f"a build that is broken off: {wrong or 'all ends with it'}")
-    return 1 if wrong else 0
+        wrong = [broken_off(tree)]
+    for script in TESTS:
+        with tempfile.TemporaryDirectory() as folder:
+            wrong.append(left_by(script, folder))
+    said = ", ".join(filter(None, wrong))
+    print(f"a build and {len(TESTS)} tests that are broken off: {said or 'all ends with them'}")
+    return 1 if said else 0
 
 
 if __name__ == "__main__":

@@ -11,6 +11,7 @@ program=$(realpath "$1")
 top=$(dirname "$0")/..
 room=$(mktemp -d)
 trap 'rm -r "$room"' EXIT
+trap 'exit 130' INT TERM HUP # (dash ends without the line above)
 ln -s "$program" "$room/jad"
 usage='usage: jad TYPE [--format NAME | --radix N] [--] TEXT; man jad lists TYPE and NAME'
 runs=0 failed=0

@@ -12,6 +12,7 @@ program=$(realpath "$1")
 page=$(dirname "$0")/../crates/lexint/README.md
 room=$(mktemp -d)
 trap 'rm -r "$room"' EXIT
+trap 'exit 130' INT TERM HUP # (dash ends without the line above)
 ln -s "$program" "$room/lexint"
 # shellcheck disable=SC2016 # (the backquotes are the page's)
 sed -n '/^```sh$/,/^```$/{/^```/d;p;}' "$page" > "$room/script"

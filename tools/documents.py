@@ -219,8 +219,7 @@ def written(found: dict[str, str]) -> str:
     wanted = presets.files(TOP, found)
     old = old_ones(TOP, wanted)
     for path in old:
-        with open(os.path.join(TOP, path), "w", encoding="utf-8") as file:
-            file.write(wanted[path])
+        source.write(os.path.join(TOP, path), wanted[path])
     return f"{len(wanted)} files looked at, {len(old)} written"
 
 

@@ -9,10 +9,10 @@ set -u
 cd "$(dirname "$0")/.." || exit 1
 export RT="${RT:-rt}" PYTHONUNBUFFERED=1
 begin=$(date +%s) passed=0 failed=0 skipped=0
-copy=$(mktemp -d)
+copy=$(mktemp -d) || exit 1
 trap 'rm -rf "$copy"' EXIT
 # A script's background jobs ignore Ctrl-C, so TERM ends the whole process group.
-trap 'trap "" TERM; kill 0; wait; exit 130' INT
+trap 'trap "" TERM; kill 0; wait; exit 130' INT HUP
 mkdir -p build
 
 say() { printf '%5d s  %s\n' $(($(date +%s) - begin)) "$1"; }

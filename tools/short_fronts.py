@@ -58,4 +58,9 @@ def main() -> None:
 
 
 if __name__ == "__main__":
-    main()
+    if sys.argv[1:]:
+        sys.exit(__doc__)
+    try:
+        main()
+    except OSError as error:
+        sys.exit(f"tools/short_fronts.py: {error}")

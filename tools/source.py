@@ -39,6 +39,13 @@ def read(path: str) -> str:
         sys.exit(f"{path} is no UTF-8")
 
 
+def write(path: str, text: str) -> None:
+    """Writes a file. If that fails, the old one stays."""
+    with open(f"{path}.new", "w", encoding="utf-8") as file:
+        file.write(text)
+    os.replace(f"{path}.new", path)
+
+
 def module_of(file: str) -> tuple[str, ...]:
     """The path of the module that a source file is."""
     parts = file[len("src/"):-len(".rt")].split("/")

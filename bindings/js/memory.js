@@ -7,7 +7,16 @@ import { JadvolniError } from "./errors.js";
 // A module that has a memory with addresses of 64 bits, and nothing else.
 const MODULE_OF_64_BITS = Uint8Array.of(0, 0x61, 0x73, 0x6d, 1, 0, 0, 0, 5, 3, 1, 4, 1);
 
-const MODULE = new URL("./jadvolni.wasm", import.meta.url);
+/** Where the module is: beside this file, unless that is a part of a blob or of a page without an address. */
+function placeOfModule() {
+  try {
+    return new URL("./jadvolni.wasm", import.meta.url);
+  } catch (cause) {
+    throw new JadvolniError(`jadvolni.wasm can't be loaded: nothing stands beside ${import.meta.url}`, { cause });
+  }
+}
+
+const MODULE = placeOfModule();
 
 const MISSING = "there is none. A package of a release has it beside index.js; in the repository `make wasm` puts it there";
 const NOT_FOUND = "the server answers 404";

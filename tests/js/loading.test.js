@@ -28,6 +28,14 @@ test("a message says that a module is missing, damaged or another", async () => 
   }
 });
 
+test("a message says that nothing stands beside a bundle in a blob", async () => {
+  const message = /^jadvolni\.wasm can't be loaded: nothing stands beside /;
+  for (const url of ['"blob:nodedata:1"', '"data:text/javascript,0"', "undefined"]) {
+    const loading = loadWith(`within ${url.length}`, MODULE, replacing("memory.js", "import.meta.url", url));
+    await assert.rejects(loading, { name: "JadvolniError", message }, url);
+  }
+});
+
 test("an engine without 64-bit memories: the message says what it lacks", () => {
   const loading = `await import(${JSON.stringify(new URL("../../bindings/js/index.js", import.meta.url).href)});`;
   const lacking = [`WebAssembly.validate = () => false; ${loading}`];

@@ -15,14 +15,17 @@ const TYPES = {
 const ENDED = "the browser has ended";
 const START = 60_000; // ms until it has to answer
 
-/** Serves a folder to this machine alone. `missing` lists what was asked for and isn't there. */
+/** Serves a folder to this machine alone. `missing` lists what was asked for and isn't there. A module waits for
+ * `held`. */
 export async function serve(folder) {
   const missing = [];
+  const served = { missing, held: undefined };
   const server = createServer(async (request, response) => {
     const path = normalize(decodeURIComponent(new URL(request.url, "http://localhost").pathname));
     const file = join(folder, path.endsWith("/") ? `${path}index.html` : path);
     try {
       const body = await readFile(file);
+      if (extname(file) === ".wasm") await served.held;
       response.writeHead(200, { "Content-Type": TYPES[extname(file)] ?? "text/plain" }).end(body);
     } catch {
       missing.push(path);
@@ -31,7 +34,7 @@ export async function serve(folder) {
   });
   await new Promise((resolve) => server.listen(0, "127.0.0.1", resolve));
   const address = `http://127.0.0.1:${server.address().port}/`;
-  return { address, missing, close: () => server.close() };
+  return Object.assign(served, { address, close: () => server.close() });
 }
 
 /** What an exception in the page says. */

@@ -244,6 +244,35 @@ test("line ends are read, pasted or in a link, where a field of one line drops t
   })()`);
   assert.equal((await browser.value(`(${shown})()`)).answer, "Err(InvalidDigit(2))");
   assert.equal(await text(), "12\\r\\n");
+  await browser.value("document.getElementById('text').select()");
+  const { x, y } = await browser.value("document.getElementById('text').getBoundingClientRect().toJSON()");
+  const data = { items: [{ mimeType: "text/plain", data: "3\n4" }], dragOperationsMask: 1 };
+  for (const type of ["dragEnter", "dragOver", "drop"]) {
+    await browser.send("Input.dispatchDragEvent", { type, x: x + 9, y: y + 9, data });
+  }
+  assert.equal(await text(), "3\\n4");
+  await browser.open(`${server.page}#text=1&type=u8&digit_separator=%0A`, READY);
+  assert.equal(await browser.value("document.getElementById('digit_separator').value"), "\\n");
+  isQuiet();
+});
+
+test("what is typed while the page loads stays, and Enter sends nothing", async () => {
+  let come;
+  server.held = new Promise((resolve) => (come = resolve));
+  await browser.send("Emulation.setFocusEmulationEnabled", { enabled: true });
+  await browser.open(`${server.page}#text=7&type=u8`, "document.getElementById('text')");
+  await browser.send("Input.insertText", { text: "12" });
+  await browser.press("Enter", "\r");
+  await browser.send("Input.insertText", { text: "3" });
+  come();
+  await browser.value(`new Promise((resolve) => {
+    const look = () => (${READY} ? resolve() : setTimeout(look, 20));
+    look();
+  })`);
+  assert.equal((await browser.value(`(${shown})()`)).answer, "Ok(123)");
+  await browser.press("Enter", "\r");
+  await browser.value("new Promise((resolve) => setTimeout(resolve, 400))");
+  assert.equal(await browser.value("location.href"), `${server.page}#text=123&type=u8&call=whole`);
   isQuiet();
 });
 

@@ -48,9 +48,19 @@ fn by_pkg_config() -> PathBuf {
         .args(["--variable=libdir", "jadvolni"])
         .output()
         .expect("no pkg-config: set JADVOLNI_LIB_DIR to the folder of libjadvolni.a");
+    let folder = unescaped(String::from_utf8(answer.stdout).expect("a path in UTF-8").trim());
     assert!(
-        answer.status.success(),
+        answer.status.success() && !folder.is_empty(),
         "pkg-config finds no jadvolni: install it, or set JADVOLNI_LIB_DIR to the folder of libjadvolni.a"
     );
-    String::from_utf8(answer.stdout).expect("a path in UTF-8").trim().into()
+    folder.into()
+}
+
+/// A path without the backslashes that pkg-config puts before blanks, where it tells where its file stands.
+fn unescaped(path: &str) -> String {
+    let (mut found, mut characters) = (String::new(), path.chars());
+    while let Some(character) = characters.next() {
+        found.extend(if character == '\\' { characters.next() } else { Some(character) });
+    }
+    found
 }

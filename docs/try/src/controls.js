@@ -48,17 +48,18 @@ export function makeControls(changed) {
   at("controls").append(...FIELDS.map(controlOf));
   at("callers").append(...CALLERS.map((value) => element("label", {},
     element("input", { type: "radio", name: "caller", value }), ` ${value}`)));
-  at("form").addEventListener("submit", (event) => event.preventDefault());
   at("text").addEventListener("input", (event) => changed({ text: event.target.value }));
-  at("text").addEventListener("paste", (event) => {
-    const { target, clipboardData } = event;
-    const pasted = clipboardData.getData("text/plain");
-    const text = inOneLine(pasted);
-    if (text === pasted) return; // (the browser's own paste can be undone)
-    target.setRangeText(text, target.selectionStart, target.selectionEnd, "end");
-    event.preventDefault();
-    changed({ text: target.value });
-  });
+  for (const [name, given] of [["paste", "clipboardData"], ["drop", "dataTransfer"]]) {
+    at("text").addEventListener(name, (event) => {
+      const { target, [given]: data } = event;
+      const pasted = data.getData("text/plain");
+      const text = inOneLine(pasted);
+      if (text === pasted) return; // (the browser's own paste can be undone)
+      target.setRangeText(text, target.selectionStart, target.selectionEnd, "end");
+      event.preventDefault();
+      changed({ text: target.value });
+    });
+  }
   for (const id of ["type", "call"]) {
     at(id).addEventListener("change", (event) => changed({ [id]: event.target.value }));
   }

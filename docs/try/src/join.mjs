@@ -64,18 +64,18 @@ const page = read(new URL("page.html", import.meta.url))
   .replace('<link rel="stylesheet" href="try.css">', () => `<style>${styles}</style>`)
   .replace(' src="page.js">', () => `>${script}`);
 
-const asked = process.argv.slice(2).join(" ");
-if (asked === "") {
+/** Does what is asked, and answers the exit status and what is wrong. */
+function done(asked) {
+  if (asked !== "" && asked !== "--check") return [2, "usage: node docs/try/src/join.mjs [--check]"];
   try {
-    writeFileSync(PAGE, page);
+    if (asked === "") writeFileSync(PAGE, page);
+    else if (read(PAGE) !== page) return [1, "docs/try/index.html isn't what node docs/try/src/join.mjs writes"];
+    return [0];
   } catch (error) {
-    console.error(`docs/try/src/join.mjs: ${error.message}`);
-    process.exitCode = 1;
+    return [1, `docs/try/src/join.mjs: ${error.message}`];
   }
-} else if (asked !== "--check") {
-  console.error("usage: node docs/try/src/join.mjs [--check]");
-  process.exitCode = 2;
-} else if (read(PAGE) !== page) {
-  console.error("docs/try/index.html isn't what node docs/try/src/join.mjs writes");
-  process.exitCode = 1;
 }
+
+const [status, wrong] = done(process.argv.slice(2).join(" "));
+if (wrong) console.error(wrong);
+process.exitCode = status;

@@ -26,13 +26,14 @@ async function begin() {
   let later;
   const fits = () => state.text.length <= LONGEST;
   const keep = () => fits() && history.replaceState(null, "", `#${fragmentOf(state)}`);
-  makeControls(({ field, value, ...others }) => {
+  const change = ({ field, value, ...others }) => {
     state = field === undefined ? { ...state, ...others } : withField(state, field, value);
     clearTimeout(later);
     later = setTimeout(keep, 200);
     at("copied").textContent = "";
     shown();
-  });
+  };
+  makeControls(change);
   at("copy-call").addEventListener("click", () => copy(at("code").textContent, at("copied")));
   at("copy-link").addEventListener("click", () => {
     if (fits()) copy(new URL(`#${fragmentOf(state)}`, location.href).href, at("copied"));
@@ -44,7 +45,9 @@ async function begin() {
     shown();
   });
   at("fields").open = Object.keys(state.fields).length > 0;
-  shown();
+  const { value: typed } = at("text"); // (while the page was loading)
+  if (typed) change({ text: typed });
+  else shown();
 }
 
 begin().catch((fault) => {

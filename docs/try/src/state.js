@@ -29,7 +29,7 @@ const FLAGS = new Map([["0", false], ["1", true]]);
 /** A field's value as the fragment has it, or undefined where it means nothing. */
 function fieldOf(kind, written) {
   if (kind === "flag") return FLAGS.get(written);
-  if (kind === "punctuation") return written;
+  if (kind === "punctuation") return inOneLine(written);
   return /^[0-9]{1,3}$/.test(written) && Number(written) < 256 ? Number(written) : undefined;
 }
 

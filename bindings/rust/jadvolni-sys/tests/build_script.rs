@@ -90,6 +90,24 @@ fn no_folder_is_a_fault() {
     assert!(said.contains("set JADVOLNI_LIB_DIR to the folder"), "{said}");
 }
 
+#[test]
+fn pkg_config_tells_of_a_folder_with_a_blank() {
+    if Command::new("pkg-config").arg("--version").output().is_err() {
+        return;
+    }
+    let room = room("a blank");
+    fs::create_dir(room.join("lib")).unwrap();
+    fs::write(room.join("lib/libjadvolni.a"), "a library").unwrap();
+    let file = |libdir| format!("{libdir}\nName: jadvolni\nDescription: integers\nVersion: 1\n");
+    fs::write(room.join("jadvolni.pc"), file("libdir=${pcfiledir}/lib")).unwrap();
+    let said = run_script(&room, None).unwrap();
+    let line = format!("cargo:rustc-link-search=native={}/lib\n", room.display());
+    assert!(said.contains(&line), "{said}");
+    fs::write(room.join("jadvolni.pc"), file("")).unwrap();
+    let said = run_script(&room, None).unwrap_err();
+    assert!(said.contains("pkg-config finds no jadvolni"), "{said}");
+}
+
 /// Writes a program that prints the version of its library, and answers its folder.
 fn caller() -> PathBuf {
     let room = room("caller");

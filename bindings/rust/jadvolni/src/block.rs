@@ -11,7 +11,6 @@ use std::vec::Vec;
 const FIRST: usize = (1 << 20) + 1;
 
 /// Bytes in a row, which grow up to a limit.
-#[derive(Debug)]
 pub(crate) struct Block {
     bytes: Vec<u8>,
     limit: usize,

@@ -56,7 +56,6 @@ impl core::error::Error for ReadError {
 /// assert_eq!(fault, ColumnError::InvalidField { field: 2, start: 5, error: Error::Overflow(7) });
 /// assert!(numbers.next().is_none());
 /// ```
-#[derive(Debug)]
 pub struct ColumnReader<R, T> {
     reader: R,
     separator: u8,
@@ -152,6 +151,17 @@ impl<R: Read, T: ColumnInteger> ColumnReader<R, T> {
         self.block.copy_within(whole..self.filled, 0);
         self.filled -= whole;
         Ok(())
+    }
+}
+
+impl<R: fmt::Debug, T> fmt::Debug for ColumnReader<R, T> {
+    /// The reader, and how far it was parsed: neither its text nor its numbers, of which a block may have many.
+    fn fmt(&self, f: &mut fmt::Formatter<'_>) -> fmt::Result {
+        let mut shown = f.debug_struct("ColumnReader");
+        shown.field("reader", &self.reader).field("separator", &self.separator);
+        shown.field("format", &self.format).field("field", &self.field);
+        shown.field("start", &self.start).field("has_ended", &self.has_ended);
+        shown.finish_non_exhaustive()
     }
 }
 

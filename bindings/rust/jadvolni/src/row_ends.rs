@@ -3,7 +3,6 @@
 use crate::Dialect;
 
 /// Looks for the end of a row, at each byte once.
-#[derive(Debug)]
 pub(crate) struct RowEnds {
     /// The size of a record, where rows are such.
     record: Option<usize>,

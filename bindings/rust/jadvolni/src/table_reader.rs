@@ -10,6 +10,7 @@ use crate::{
     parse_table_part, parse_table_part_skipping, BadRow, Dialect, Header, TableColumn, TableError,
     TableFault, TableReadError,
 };
+use core::fmt;
 use std::boxed::Box;
 use std::io::Read;
 use std::vec::Vec;
@@ -32,7 +33,6 @@ use std::vec::Vec;
 /// }
 /// assert_eq!(sum, 6);
 /// ```
-#[derive(Debug)]
 pub struct TableReader<'a, R> {
     reader: R,
     dialect: Dialect<'a>,
@@ -348,6 +348,17 @@ impl<'a, R: Read> TableReader<'a, R> {
             }
             None => TableReadError::LongRow(self.start),
         }
+    }
+}
+
+impl<R: fmt::Debug> fmt::Debug for TableReader<'_, R> {
+    /// The reader, and how far it was parsed: neither its text nor its bad rows, of which a block may have many.
+    fn fmt(&self, f: &mut fmt::Formatter<'_>) -> fmt::Result {
+        let mut shown = f.debug_struct("TableReader");
+        shown.field("reader", &self.reader).field("dialect", &self.dialect);
+        shown.field("row", &self.row).field("bad_rows", &self.bad_rows);
+        shown.field("start", &(self.start + self.parsed)).field("has_ended", &self.has_ended);
+        shown.finish_non_exhaustive()
     }
 }
 

@@ -151,3 +151,14 @@ fn a_fault_far_behind_has_its_place() {
     let error = Error::Overflow(400_002);
     assert_eq!(told, ColumnError::InvalidField { field: 200_000, start: 400_000, error });
 }
+
+#[test]
+fn shown_for_debugging_readers_have_no_text() {
+    let mut numbers = ColumnReader::<_, u8>::new(&b"77\n88\n"[..], b'\n', Format::STANDARD);
+    numbers.next().unwrap().unwrap();
+    let mut rows = TableReader::new(&b"77\n88\n"[..], Dialect::LINES);
+    assert_eq!(rows.read(&mut [TableColumn::of(&mut [0u8; 1])]).unwrap(), 1);
+    for shown in [format!("{numbers:?}"), format!("{rows:?}")] {
+        assert!(shown.len() < 1000 && !shown.contains("55, 55"), "{shown}");
+    }
+}
