@@ -98,6 +98,8 @@ def asked(about: str, unit: str, size: int, rounds: int, compares: bool = False,
     if has_files:
         parser.add_argument("--megabytes", type=positive, default=0, help="read a file, by blocks")
     found = parser.parse_args()
+    if compares and has_files and found.against and found.megabytes:
+        parser.error("--against and --megabytes go each alone")
     return Asked(unit, getattr(found, unit), found.rounds, found.seed, os.getloadavg()[0],
                  found.against if compares else "", found.megabytes if has_files else 0)
 

@@ -77,6 +77,9 @@ CASES = [
          " bench/run a b > /dev/full", "bench/run: [Errno 28] No space left on device"),
     Case("rm -r a b; env RT=true BENCH_ROOM=/dev/null bench/tokens.py > out", "bench: "),
     Case("bench/tables.py --against nowhere", "there is no nowhere/build/libjadvolni.a: make lib"),
+    Case("mkdir -p a/build; echo > a/build/libjadvolni.a;"
+         " bench/tables.py --against a --megabytes 9; code=$?; rm -r a; exit $code",
+         "--against and --megabytes go each alone"),
     Case("make run RT=nowhere", "there is no `nowhere` on the PATH"),
     Case("make lib RT=nowhere", "there is no `nowhere` on the PATH"),
     Case("make test RT=nowhere", "there is no `nowhere` on the PATH"),
