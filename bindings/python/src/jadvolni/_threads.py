@@ -4,13 +4,14 @@ from __future__ import annotations
 
 from collections import deque
 from concurrent.futures import Future
-from contextlib import ExitStack, suppress
+from contextlib import ExitStack
 from itertools import accumulate
 from typing import TYPE_CHECKING, Any, Iterable, Iterator, NoReturn
 
 from ._core import _move_bits, _row_count, _row_stops
 from ._faults import Fault, Part
 from ._files import Texts, read_texts
+from ._format import bytes_of
 from ._pool import Pool
 from ._reader import Reader, pair_of, with_pair
 from ._rows import Rows
@@ -27,14 +28,6 @@ _FEW = 1024
 def raise_changed() -> NoReturn:
     """Raises RuntimeError: a text that was read twice gave different rows."""
     raise RuntimeError("the text was changed while it was read")
-
-
-def bytes_of(text: str) -> bytes:
-    """The bytes of a str as every call reads them, also where it has none in UTF-8."""
-    for errors in "strict", "surrogateescape":
-        with suppress(UnicodeEncodeError):
-            return text.encode("utf-8", errors)
-    return text.encode("utf-8", "surrogatepass")
 
 
 # ---- a text in memory, whose lines say how much room there has to be
@@ -164,5 +157,8 @@ def rows_in_threads(
             if found:
                 found[-1].raise_fault(row)
                 row += found[-1].end
-    if failed:
-        raise failed
+    try:
+        if failed:
+            raise failed
+    finally:
+        failed = None  # (it has this frame, which would keep it, and with it the last blocks)
