@@ -160,8 +160,9 @@ def _quote_in(line: bytes, start: int) -> str:
 
 def _shown(name: object) -> str:
     """A name as a message shows it, which may be all of a file that has no line feed."""
-    is_long = isinstance(name, str) and len(name) > SHOWN
-    return f"{name[:SHOWN]!r}.." if is_long else repr(name)
+    if isinstance(name, str) and len(name) > SHOWN:
+        return f"{name[:SHOWN]!r}.."
+    return repr(name)
 
 
 def _listed(names: Sequence[str]) -> str:
