@@ -4,7 +4,7 @@ from __future__ import annotations
 
 from collections import deque
 from concurrent.futures import Future
-from contextlib import ExitStack
+from contextlib import ExitStack, suppress
 from itertools import accumulate
 from typing import TYPE_CHECKING, Any, Iterable, Iterator, NoReturn
 
@@ -32,13 +32,24 @@ def raise_changed() -> NoReturn:
 
 # ---- a text in memory, whose lines say how much room there has to be
 
+def _until_end(held: ExitStack, view: memoryview) -> memoryview:
+    """A view that is released in the end. Where a second interruption lets no thread be waited for,
+    one that reads it still has it, and that isn't what is raised."""
+    def release() -> None:
+        with suppress(BufferError):
+            view.release()
+
+    held.callback(release)
+    return view
+
+
 def _room_behind(
     reader: Reader, arrays: Table, row: int, rows: int, held: ExitStack
 ) -> dict[str, Any]:
     """Room for `rows` rows after `row` others. Its bits are new: both may have bits in one byte."""
     room = {}
     for name, column in reader.read.items():
-        numbers = held.enter_context(memoryview(pair_of(arrays[name])[0])[row:row + rows])
+        numbers = _until_end(held, memoryview(pair_of(arrays[name])[0])[row:row + rows])
         bits = reader.bits(rows) if column.may_miss else None
         room[name] = with_pair(arrays[name], numbers, bits)
         if isinstance(room[name], Room):
@@ -72,7 +83,7 @@ def parse_in_threads(
         whole = held.enter_context(memoryview(bytes_of(text) if isinstance(text, str) else text))
         parts = min(threads, len(whole))
         stops = _row_stops(whole, parts, reader.has_quotes, reader.record)
-        texts = [held.enter_context(whole[start:stop]) for start, stop in zip([0, *stops], stops)]
+        texts = [_until_end(held, whole[start:stop]) for start, stop in zip([0, *stops], stops)]
         lines = pool.map(lambda it: _row_count(it, reader.record), texts)
         if sum(lines) > room:
             raise_changed()
