@@ -301,7 +301,7 @@ private:
     bool tell(const skipping_result &read) noexcept
     {
         const auto here = text();
-        const auto known = std::min(read.bad_rows(), bad_capacity_);
+        const auto known = std::min<std::size_t>(read.bad_rows(), bad_capacity_);
         for (std::size_t index = 0; index < known; ++index)
             bad_[index] = behind(bad_[index], here.rows, here.before);
         block_ = table_block(read, row_, here.before + read.place(), nullptr, here, how_, read.bad_rows());

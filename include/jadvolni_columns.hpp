@@ -38,7 +38,7 @@ inline void move_texts(const table_column &column, std::size_t rows, std::size_t
          | column.u16.capacity | column.i8.capacity | column.u8.capacity) != 0)
         return;
     const auto &[bits, bits_size] = column.present;
-    for (std::size_t row = 0; row < std::min(rows, capacity); ++row)
+    for (std::size_t row = 0; row < std::min<std::size_t>(rows, capacity); ++row)
         if (bits_size == 0 || (bits[row / 8] >> (row % 8) & 1) != 0) texts[row].start += bytes;
 }
 
@@ -99,7 +99,7 @@ public:
     // text, and so do those of texts.
     [[nodiscard]] table_result read(std::string_view text, std::size_t capacity) noexcept
     {
-        auto behind = text.substr(std::min(place_, text.size()));
+        auto behind = text.substr(std::min<std::size_t>(place_, text.size()));
         auto rows = detail::read_table(behind, true, how_, capacity, data(), size());
         move_texts(rows);
         return rows.moved(place_);
@@ -109,7 +109,7 @@ public:
     template <class Bad>
     [[nodiscard]] skipping_result read_skipping(std::string_view text, std::size_t capacity, Bad &&bad) noexcept
     {
-        const auto start = std::min(place_, text.size());
+        const auto start = std::min<std::size_t>(place_, text.size());
         auto rows = detail::read_table_skipping(text.substr(start), true, how_, capacity, data(), size(),
                                                 std::data(bad), std::size(bad));
         move_texts(rows);
@@ -123,7 +123,7 @@ public:
     // as long as these columns exist.
     table_fault fault(const table_result &read, std::string_view text) const noexcept
     {
-        auto rows = text.substr(std::min(place_, text.size()));
+        auto rows = text.substr(std::min<std::size_t>(place_, text.size()));
         auto start = place_ + jadvolni_row_place(rows.data(), rows.size(), &how_, read.rows()).start;
         return named(table_fault(read, start, text, how_));
     }
@@ -224,7 +224,7 @@ private:
         }
         std::string message = fault + quoted(name) + ": the header has ";
         constexpr std::size_t most = 40;
-        for (std::size_t index = 0; index < std::min(most, names_.size()); ++index)
+        for (std::size_t index = 0; index < std::min<std::size_t>(most, names_.size()); ++index)
             message += (index ? ", " : "") + quoted(names_[index]);
         if (names_.size() > most) message += " and " + std::to_string(names_.size() - most) + " more";
         return fail(message + hint), names_.size();

@@ -17,7 +17,7 @@ public:
         if (!how.is_records) return;
         for (std::size_t column = 0; column < how.width_count; ++column) {
             auto room = std::size_t(-1) - record_size_;
-            record_size_ += std::min(room, how.widths[column]);
+            record_size_ += std::min<std::size_t>(room, how.widths[column]);
         }
         record_size_ = std::max<std::size_t>(record_size_, 1);
     }
@@ -246,7 +246,7 @@ private:
     // Stores the row, which starts at a place of the text.
     void put_row(std::size_t start, std::string_view text, const table &how) noexcept
     {
-        start = std::min(start, text.size());
+        start = std::min<std::size_t>(start, text.size());
         const auto row = detail::first_row(text.substr(start), how);
         line_ = line_column(text, place()).line;
         row_start_ = start;

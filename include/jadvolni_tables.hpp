@@ -189,7 +189,7 @@ struct written {
         auto take_items = [&](const auto *first, std::size_t capacity) noexcept {
             if (capacity == 0 || !items.is_empty()) return;
             items.start = reinterpret_cast<std::uintptr_t>(first);
-            items.stop = items.start + std::min(rows, capacity) * sizeof *first;
+            items.stop = items.start + std::min<std::size_t>(rows, capacity) * sizeof *first;
         };
         auto take = [&](const auto &array) noexcept { take_items(array.numbers, array.capacity); };
         take(column.i64), take(column.u64), take(column.i32), take(column.u32);
@@ -197,7 +197,7 @@ struct written {
         take_items(column.text.texts, column.text.capacity);
         if (items.is_empty()) return;
         bits.start = reinterpret_cast<std::uintptr_t>(column.present.bytes);
-        bits.stop = bits.start + std::min(column.present.size, rows / 8 + (rows % 8 != 0));
+        bits.stop = bits.start + std::min<std::size_t>(column.present.size, rows / 8 + (rows % 8 != 0));
     }
 
     // Whether both columns write to the same byte.

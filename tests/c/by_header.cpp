@@ -1,14 +1,23 @@
 // Columns by the names of a header, of a text and in blocks; hostile headers. Numbers within bounds.
-#include "jadvolni_columns.hpp"
-#include "check.h"
-#include "tables.hpp"
-
+#include <algorithm>
 #include <array>
+#include <charconv>
 #include <climits>
 #include <cstring>
+#include <iterator>
 #include <limits>
+#include <optional>
 #include <string>
 #include <vector>
+
+// Old headers define these, behind which only the standard's own can't be included.
+#define min(one, other) ((one) < (other) ? (one) : (other))
+#define max(one, other) ((one) > (other) ? (one) : (other))
+#include "jadvolni_columns.hpp"
+#undef min
+#undef max
+#include "check.h"
+#include "tables.hpp"
 
 using jadvolni::columns_by_header, jadvolni::status;
 

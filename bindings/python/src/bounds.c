@@ -27,9 +27,12 @@ int bounds_of(PyObject *least, PyObject *most, bounds *asked)
     if (asked->least == Py_None || asked->most == Py_None)
         return 0;
     int crossed = PyObject_RichCompareBool(asked->most, asked->least, Py_LT);
-    if (crossed > 0)
-        PyErr_Format(PyExc_ValueError, "min has to be at most max, and %S is more than %S",
-                     asked->least, asked->most);
+    PyObject *from = crossed > 0 ? PyObject_Str(asked->least) : NULL; /* (or it has too many digits for Python) */
+    PyObject *to = from ? PyObject_Str(asked->most) : NULL;
+    if (to)
+        PyErr_Format(PyExc_ValueError, "min has to be at most max, and %U is more than %U", from, to);
+    Py_XDECREF(to);
+    Py_XDECREF(from);
     return crossed ? -1 : 0;
 }
 

@@ -88,9 +88,14 @@ PyObject *row_cells(PyObject *module, PyObject *args)
     jadvolni_table table = {0};
     const char *row;
     Py_ssize_t len;
+    PyObject *separator;
     int has_quotes;
-    if (!PyArg_ParseTuple(args, "y#bp", &row, &len, &table.separator, &has_quotes))
+    if (!PyArg_ParseTuple(args, "y#Op", &row, &len, &separator, &has_quotes))
         return NULL;
+    int byte = separator_of(separator);
+    if (byte < 0)
+        return NULL;
+    table.separator = (uint8_t)byte;
     table.has_quotes = (uint8_t)has_quotes;
     size_t count = jadvolni_row_cells(row, (size_t)len, &table, 0, NULL, 0).count;
     jadvolni_cell_place *cells = PyMem_New(jadvolni_cell_place, count);

@@ -92,8 +92,10 @@ static int place_of(PyObject *given, size_t *place)
     int overflows = 0;
     long long signed_place = PyLong_AsLongLongAndOverflow(number, &overflows);
     int is_negative = overflows < 0 || (overflows == 0 && signed_place < 0);
-    if (is_negative)
-        PyErr_Format(PyExc_ValueError, "place has to be 0 or more, and not %S", number);
+    PyObject *shown = is_negative ? PyObject_Str(number) : NULL; /* (it may have too many digits for Python) */
+    if (shown)
+        PyErr_Format(PyExc_ValueError, "place has to be 0 or more, and not %U", shown);
+    Py_XDECREF(shown);
     Py_DECREF(number);
     *place = overflows ? SIZE_MAX : (size_t)signed_place;
     return is_negative ? -1 : 0;

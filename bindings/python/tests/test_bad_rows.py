@@ -337,6 +337,20 @@ class Skipping(unittest.TestCase):
         self.assertEqual((table["a"].tolist(), table.bad_rows), ([], len(seen)))
         self.assertLess(len(seen), 5000)
 
+    def test_a_text_that_grows_meanwhile(self):
+        """Its rows end where its old ones do, or its new ones, and reading ends too."""
+        for rows in range(1022, 1028):
+            for more in 1, 2, 5, 64, 65, 5000:
+                text, seen = bytearray(b"x\n" + b"1\n" * rows), []
+
+                def tell(error):
+                    seen.append(error.row)
+                    text.extend(b"7\n" * more)
+
+                table = parse_table(text, {"a": "u8"}, on_error="skip", errors=tell)
+                self.assertIn(table["a"].tolist(), ([1] * rows, [1] * rows + [7] * more))
+                self.assertEqual(seen, [0])
+
     def test_wrong_arguments(self):
         file = io.BytesIO
         for call in (

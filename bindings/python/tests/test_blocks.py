@@ -112,6 +112,7 @@ class Blocks(unittest.TestCase):
     def test_arguments(self):
         self.assertEqual(self.numbers(b"FF 10", "u16", " ", Format(mantissa_radix=16)), [255, 16])
         self.assertEqual(self.numbers(b"1", size=2**70), [1])
+        self.assertEqual(self.numbers(b"1\x802", "u8", "\udc80"), [1, 2])
         for size in (0, -1):
             with self.assertRaisesRegex(ValueError, "size has to be 1 or more"):
                 self.numbers(b"1", size=size)

@@ -109,6 +109,9 @@ class Bounds(unittest.TestCase):
                 parse("1", "u8", **given)
         with self.assertRaisesRegex(ValueError, "min has to be at most max, and 5 is more than 3"):
             parse("4", "u8", min=5, max=3)
+        for given in {"min": 10**5000, "max": 0}, {"min": 10**5000}:  # (which Python doesn't write)
+            with self.assertRaisesRegex(ValueError, "limit"):
+                parse("4", "u8", **given)
         with self.assertRaisesRegex(TypeError, "at most 3 arguments by place, and was given 4"):
             parse("1", "u8", None, 1)
         self.assertRaises(TypeError, parse_front, "1", "u8", min=1)

@@ -133,6 +133,9 @@ class Attributes(unittest.TestCase):
             self.assertEqual(error.text, cell[:40])
         error = fault_of(parse_table, "x", {'a"\n\udcff\ud800': "u8"})
         self.assertTrue(str(error).startswith(r'line 1, "a\"\n\xff\ud800": "x": '), str(error))
+        for name, shown in ("n" * 40, f'"{"n" * 40}"'), ("n" * 41, f'"{"n" * 40}"..'):
+            error = fault_of(parse_table, f"{name}\nx", {name: "u8"}, header=True)
+            self.assertTrue(str(error).startswith(f'line 2, {shown}: "x": '), str(error))
         for name in 7, None, ("a",), b"a":
             error = fault_of(parse_table, "1,x", {"": None, name: "u8"})
             self.assertEqual(error.name, name)
@@ -210,6 +213,8 @@ class Lines(unittest.TestCase):
         for place, told in (-1, "0 or more, and not -1"), ("1", "an integer, and not str"):
             with self.assertRaisesRegex((TypeError, ValueError), f"^place has to be {told}$"):
                 line_column(b"", place)
+        with self.assertRaisesRegex(ValueError, "limit"):
+            line_column(b"", -10**5000)  # (which Python doesn't write)
 
     def test_wrong_arguments(self):
         for words, named, kind in (

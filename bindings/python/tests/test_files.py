@@ -1,5 +1,6 @@
 """Tests of files: by blocks, by few bytes a call, cut short, in threads, with little memory."""
 
+import gc
 import gzip
 import io
 import os
@@ -10,11 +11,12 @@ import sys
 import tempfile
 import time
 import unittest
+import weakref
 import zipfile
 from unittest import mock
 
 import test_threads
-from jadvolni import Column, ParseError, iter_table, parse_table, read_table
+from jadvolni import Column, ParseError, iter_column, iter_table, parse_table, read_table
 
 COLUMNS = {"a": Column("u16", may_miss=True), "b": None, "c": "i32"}
 QUOTED = {"has_quotes": True}
@@ -53,6 +55,13 @@ def outcome(call):
         return call()
     except ParseError as error:
         return test_threads.fault_of(error)
+
+
+class Failing:
+    """A file that can't be read."""
+
+    def read(self, _):
+        raise OSError("no disk")
 
 
 class Other(io.BytesIO):
@@ -200,6 +209,38 @@ class Files(unittest.TestCase):
                                progress=lambda count: os.truncate(self.path, 4096))
             self.assertLessEqual(set(found["a"].tolist()), {1})
             self.path.write_bytes(b"1\n" * 100_000)
+
+    def test_blocks_of_more_bytes_than_there_is_memory(self):
+        self.path.write_bytes(b"1\n2\n")
+        gzipped = gzip.compress(b"1\n2\n", mtime=0)
+        for size in 10**12, sys.maxsize, 2**70:
+            for given in {}, {"threads": 1}, {"threads": 3}, {"out": {"a": bytearray(2)}}:
+                self.assertEqual(list(read_table(self.path, {"a": "u8"}, size=size, **given)["a"]),
+                                 [1, 2])
+            with gzip.open(io.BytesIO(gzipped)) as file, open(self.path, "rb") as other:
+                self.assertEqual(list(read_table(file, {"a": "u8"}, size=size)["a"]), [1, 2])
+                self.assertEqual([*map(list, iter_column(other, size=size))], [[1, 2]])
+
+    def test_what_else_a_file_has_may_fail(self):
+        """Its size is asked for, and nothing depends on it."""
+        for wrong in NotImplementedError(), TypeError(), KeyError("none"):
+            file = mock.Mock(read=io.BytesIO(b"1\n").read, fileno=mock.Mock(side_effect=wrong))
+            self.assertEqual(read_table(file, {"a": "u8"})["a"].tolist(), [1])
+        file = mock.Mock(read=io.BytesIO(b"1\n").read)  # (whose numbers are none)
+        self.assertEqual(read_table(file, {"a": "u8"})["a"].tolist(), [1])
+
+    def test_a_file_that_failed_is_let_go(self):
+        gc.disable()
+        self.addCleanup(gc.enable)
+        for threads in 1, 3:
+            file = Failing()
+            kept = weakref.ref(file)
+            try:
+                read_table(file, {"a": "u8"}, threads=threads)
+            except OSError:
+                pass
+            del file
+            self.assertIsNone(kept())
 
     def test_a_map_is_asked_for(self):
         self.path.write_bytes(b"1,x,2\n")

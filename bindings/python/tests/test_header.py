@@ -5,6 +5,7 @@ import io
 import pathlib
 import random
 import tempfile
+import tracemalloc
 import unittest
 from array import array
 
@@ -117,6 +118,16 @@ class Names(unittest.TestCase):
         self.assertEqual(parse_table("\n\nid\n", {"id": "u8"}, header=True,
                                      skips_empty_rows=True)["id"].tolist(), [])
 
+    def test_many_empty_rows_take_no_memory_of_their_own(self):
+        text, given = b"\r\n" * 500_000 + b"a\n1\n", {"skips_empty_rows": True, "header": True}
+        tracemalloc.start()
+        try:
+            found = parse_table(text, {"a": "u8"}, allows_returns=True, **given)
+            self.assertLess(tracemalloc.get_traced_memory()[1], 8 * len(text))
+        finally:
+            tracemalloc.stop()
+        self.assertEqual(test_tables.lists(found), {"a": [1]})
+
     def test_names_that_are_missing_or_twice(self):
         for text, columns, given, message in (
             (TEXT, {"id": "u8", "betrag": "i64"}, {},
@@ -137,6 +148,11 @@ class Names(unittest.TestCase):
              "the header has no column 'x': it has 'id', 'amount\\r'"),
             (b",".join(b"%d" % k for k in range(50)), {"x": "u8"}, {}, "the header has no column"
              f" 'x': it has {', '.join(repr(str(k)) for k in range(40))} and 10 more"),
+            (b"x" * 1000, {"y" * 1000: "u8"}, {},
+             f"the header has no column '{'y' * 40}'..: it has '{'x' * 40}'.."),
+            (b"x," * 49 + b"x", {"x": "u8"}, {}, "the header has 'x' as its columns"
+             f" {' and '.join(map(str, range(1, 41)))} and more: no name chooses one of"
+             f" {', '.join(40 * [repr('x')])} and 10 more"),
         ):
             with self.subTest(text=text):
                 with self.assertRaises(ValueError) as told:
@@ -219,6 +235,8 @@ class Names(unittest.TestCase):
         with self.assertRaisesRegex(ValueError, "more than 9 bytes: the quote at byte 2 may lack"):
             next(iter_table(io.BytesIO(b'a,"b\n1,2\n3,4\n'), {"a": "u8"}, header=True, size=9,
                             has_quotes=True))
+        self.assertEqual(test_tables.lists(parse_table(
+            b"a\x80b\n1\x802\n", {"b": "u8"}, "\udc80", header=True)), {"b": [2]})
         wide = {"separator": "|", "header": True}
         self.assertRaises(ParseError, parse_table, "a|b\n1|x\n", {"b": "u8"}, **wide)
 
@@ -326,8 +344,9 @@ class Names(unittest.TestCase):
                 call(COLUMNS, "ab", header=True)
             with self.assertRaisesRegex(TypeError, "columns has to be a dict, and not list"):
                 call(["id"], header=True)
-            with self.assertRaises(TypeError):
-                call(COLUMNS, 7, header=True)
+            for separator in 7, object(), array("H", [44]):
+                with self.assertRaisesRegex(TypeError, "separator has to be a str or contiguous"):
+                    call(COLUMNS, separator, header=True)
         for text in 7, None, array("H", [1]), memoryview(b"1234")[::2]:
             with self.assertRaisesRegex(TypeError, "text has to be a str or contiguous bytes"):
                 parse_table(text, COLUMNS, header=True)

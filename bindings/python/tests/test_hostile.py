@@ -187,6 +187,11 @@ class Hostile(unittest.TestCase):
         gc.collect()
         self.assertGreater(count, 400)
 
+    def test_a_text_is_what_it_has_whatever_it_says(self):
+        for threads in 1, 2:
+            self.assertEqual(parse_table(Lying("12"), {"a": "u8"}, threads=threads)["a"][0], 12)
+        self.assertEqual(parse_table(Lying("a\n12"), {"a": "u8"}, header=True)["a"][0], 12)
+
     def test_texts_that_change_meanwhile(self):
         """They give other rows, or an exception; no place beyond the text is read."""
         columns = {"a": Column("u8", may_miss=True), "b": Text()}

@@ -152,6 +152,17 @@ class Pools(unittest.TestCase):
         self.assertEqual((sorted(made), pool.running), ([*range(200)], 0))
         self.assertFalse([it for it in pool.threads if it.is_alive()])
 
+    def test_an_interruption_leaves_it_unlocked(self):
+        """Python's own code enters a lock in one step, and a condition in several."""
+        class Entered(threading.Condition):
+            def __enter__(self):
+                raise AssertionError("a condition was entered")
+
+        with mock.patch("jadvolni._pool.Condition", Entered), Pool(2) as pool:
+            self.assertEqual(pool.map(len, ["", "a", "ab"]), [0, 1, 2])
+            pool.most, pool.running = 0, 0
+            self.assertEqual(pool.submit(len, "abc").result(), 3)
+
 
 if __name__ == "__main__":
     unittest.main()

@@ -20,6 +20,7 @@ from unittest import mock
 import jadvolni
 from jadvolni import (Column, Format, ParseError, Sparse, iter_table, parse_table,
                       read_table)
+from jadvolni._pool import Pool
 
 COLUMNS = {"a": Column("u8", may_miss=True), "b": None, "c": Column("i32", None, True), "d": "i16"}
 PIECES = (b"1", b"-7", b"300", b" ", b",", b",", b"\n", b"\n", b"\r\n", b'"', b'"', b'"a,\n"')
@@ -318,6 +319,36 @@ class Threads(unittest.TestCase):
         with mock.patch("jadvolni._reader._parse_table", parse):
             with self.assertRaises(KeyboardInterrupt):
                 parse_table(b"1\n" * 20, {"a": "u8"}, threads=4)
+
+    def test_a_second_interrupt_is_told(self):
+        """It comes while threads are waited for, and they still have the text."""
+        reads, done, ended = threading.Event(), threading.Event(), []
+
+        def parse(*asked):
+            if asked[7]:
+                held = pickle.PickleBuffer(asked[0])
+                reads.set()
+                done.wait(60)
+                held.release()
+            return jadvolni._core._parse_table(*asked)
+
+        class Interrupted(Pool):
+            def map(self, function, given):
+                calls = [self.submit(function, it) for it in given]
+                if function.__name__ == "rows_of" and reads.wait(60):
+                    raise KeyboardInterrupt
+                return [it.result() for it in calls]
+
+            def __exit__(self, *_):
+                ended.append(super().__exit__)
+                raise KeyboardInterrupt
+
+        with mock.patch("jadvolni._reader._parse_table", parse):
+            with mock.patch("jadvolni._threads.Pool", Interrupted):
+                with self.assertRaises(KeyboardInterrupt):
+                    parse_table(b"1\n" * 20, {"a": "u8"}, threads=4)
+            done.set()
+            ended.pop()()
 
     def test_a_text_that_changes_meanwhile(self):
         """A fault is reported as a thread has found it."""

@@ -5,12 +5,11 @@ from __future__ import annotations
 import io
 import os
 import stat
-import sys
 from contextlib import suppress
 from typing import TYPE_CHECKING, Any, Callable, Iterator, Optional, Protocol, Union
 
 from ._core import _keep_memory, _parse_part
-from ._format import Format, _integer
+from ._format import Format, _integer, bytes_of
 
 if TYPE_CHECKING:
     from array import array
@@ -23,6 +22,8 @@ _LARGE = 31 << 20
 # for the row that began before.
 _PIECE = 1 << 18
 _FRONT = 1 << 12
+# No block has more bytes than this: a file may make room for all that it is asked for.
+_MOST = 1 << 30
 # A block of a file, or a piece of one.
 Block = Union[bytes, memoryview]
 
@@ -48,7 +49,7 @@ def _block(file: File, size: int) -> bytes:
         known = isinstance(file, (bytes, bytearray, memoryview))
         hint = ": parse_table and parse_column read what is in memory" if known else ""
         raise TypeError(f"file has to be one opened by \"rb\", and not {type(file).__name__}{hint}")
-    block = _some(file.read(min(size, sys.maxsize)))
+    block = _some(file.read(size))
     if isinstance(block, bytes):
         return block
     raise TypeError(f"file has to give bytes, and not {type(block).__name__}: open it with \"rb\"")
@@ -72,7 +73,7 @@ def keep_memory(size: int) -> None:
 
 def _size_left(file: Any) -> int:
     """How many bytes are left in a file, or 0 if that isn't known."""
-    with suppress(AttributeError, OSError, ValueError):
+    with suppress(Exception):  # (of a file of one's own, whose other methods may do anything)
         if type(file) is io.BytesIO:
             place = file.tell()
             size = file.seek(0, os.SEEK_END)
@@ -99,6 +100,7 @@ class Blocks:
         by_pieces: bool = False,
     ) -> None:
         self.file: Any = file
+        size = min(size, _MOST)
         self.size, self.progress, self.piece, self.behind = size, progress, size, 0
         self.left = -1  # (how many bytes the file has left, or less than 0 if that isn't known)
         self.room: Optional[memoryview] = None
@@ -165,7 +167,7 @@ def iter_column(
     if it raises, reading ends.
     """
     size = _one_or_more("size", size)
-    parted = separator.encode() if isinstance(separator, str) else separator
+    parted = bytes_of(separator) if isinstance(separator, str) else separator
     _parse_part(b"", type, parted, format, 0, 0)  # (this refuses wrong arguments)
     left, field, start = bytearray(), 0, 0
     for block in map(bytes, Blocks(file, size, progress)):

@@ -157,7 +157,9 @@ def _shown(text: bytes) -> str:
 def _message(fault: Fault, name: object, where: str) -> str:
     """The message of a fault. It counts lines and columns from 1, as editors do, and bytes from 0.
     """
-    column = _quoted(name) if isinstance(name, str) else f"column {fault.column + 1}"
+    column = f"column {fault.column + 1}"
+    if isinstance(name, str):
+        column = _quoted(name[:SHOWN]) + (".." if len(name) > SHOWN else "")
     if fault.kind == "TooFewCells":
         return f"{where}: {fault.message}, none for {column}"
     if fault.kind == "MissingReturn":

@@ -4,6 +4,7 @@ from __future__ import annotations
 
 import dataclasses
 import operator
+from contextlib import suppress
 from typing import TYPE_CHECKING, Any, Optional, Union
 
 from ._core import _check_format
@@ -27,13 +28,21 @@ _NEEDED = (
 )
 
 
+def bytes_of(text: str) -> bytes:
+    """The bytes of a str as every call reads them, also where it has none in UTF-8."""
+    for errors in "strict", "surrogateescape":
+        with suppress(UnicodeEncodeError):
+            return str.encode(text, "utf-8", errors)
+    return str.encode(text, "utf-8", "surrogatepass")
+
+
 def byte_of_punctuation(name: str, value: object, none: str = "") -> Optional[int]:
     """The byte of an argument of a name, or None for None, where that may be."""
     if value is None and none:
         return None
     if not isinstance(value, (bytes, str)):
         raise TypeError(f"{name} has to be one byte{none}, and not {type(value).__name__}")
-    encoded = value.encode() if isinstance(value, str) else value
+    encoded = bytes_of(value) if isinstance(value, str) else value
     if len(encoded) != 1:
         raise ValueError(f"{name} has to be one byte{none}, and {value!r} has {len(encoded)}")
     return encoded[0]

@@ -9,11 +9,11 @@ from typing import TYPE_CHECKING, Iterator, Sequence
 
 from ._blocks import Block
 from ._core import _row_cells, _row_ends
-from ._faults import Part, hint_at
+from ._faults import SHOWN, Part, hint_at
+from ._format import bytes_of
 from ._widths import header_cells, sizes_of
 
 if TYPE_CHECKING:
-    from ._core import Text
     from ._reader import Columns, How
 
 _MARK = b"\xef\xbb\xbf"  # the byte order mark, which some programs write before UTF-8
@@ -21,14 +21,6 @@ _MARK = b"\xef\xbb\xbf"  # the byte order mark, which some programs write before
 _LISTED = 40
 # The separators that tables usually have.
 _SEPARATORS = b",;\t|"
-
-
-def byte_of(separator: Text) -> bytes:
-    """The one byte of a separator."""
-    byte = separator.encode() if isinstance(separator, str) else bytes(memoryview(separator))
-    if len(byte) != 1:
-        raise ValueError(f"separator has to be one byte, and not {len(byte)}")
-    return byte
 
 
 def _name(cell: bytes, how: How) -> str:
@@ -56,10 +48,10 @@ def names_of(line: bytes, how: How) -> list[str]:
     line = _without_end(line, how)
     if how.widths is not None:
         return [_name(cell, how) for cell in header_cells(line, sizes_of(how.widths))]
-    separator = byte_of(b"," if how.separator is None else how.separator)
+    separator = b"," if how.separator is None else how.separator
     # Quotes have a meaning if all of them close.
     has_quotes = bool(how.has_quotes) and line.count(b'"') % 2 == 0
-    return [_name(cell, how) for cell in _row_cells(line + b"\n", separator[0], has_quotes)]
+    return [_name(cell, how) for cell in _row_cells(line + b"\n", separator, has_quotes)]
 
 
 def with_header(how: How, header: bool) -> How:
@@ -81,7 +73,8 @@ def _behind_empty_rows(blocks: Iterator[Block], how: How) -> tuple[Iterator[Bloc
         return blocks, Part()
     # (an empty row that lacks its return is skipped too, even if the table asks for returns)
     end = rb"\r?\n" if how.has_returns or how.allows_returns else rb"\n"
-    empty, left, start, lines = re.compile(b"(?:%b)+" % end), b"", 0, 0
+    # ("++" looks back at no row, and so keeps none in memory)
+    empty, left, start, lines = re.compile(b"(?:%b)++" % end), b"", 0, 0
     for block in blocks:
         left += block
         if block and _MARK.startswith(left):
@@ -165,10 +158,17 @@ def _quote_in(line: bytes, start: int) -> str:
     return f": the quote at byte {at} may lack the one that closes it"
 
 
+def _shown(name: object) -> str:
+    """A name as a message shows it, which may be all of a file that has no line feed."""
+    if isinstance(name, str) and len(name) > SHOWN:
+        return f"{name[:SHOWN]!r}.."
+    return repr(name)
+
+
 def _listed(names: Sequence[str]) -> str:
     """Names as a message lists them, the first of them if they are many."""
     more = f" and {len(names) - _LISTED} more" if len(names) > _LISTED else ""
-    return ", ".join(map(repr, names[:_LISTED])) + more
+    return ", ".join(map(_shown, names[:_LISTED])) + more
 
 
 def _hint(names: Sequence[str], missing: Sequence[str], how: How) -> str:
@@ -180,8 +180,9 @@ def _hint(names: Sequence[str], missing: Sequence[str], how: How) -> str:
         return "; allows_returns may have to be True"
     if not how.allows_blanks and {name.strip(" \t") for name in names}.issuperset(missing):
         return "; allows_blanks may have to be True"
-    separator = byte_of(b"," if how.separator is None else how.separator)
-    others = [chr(it) for it in _SEPARATORS if chr(it) in names[0] and it != separator[0]]
+    separator = b"," if how.separator is None else how.separator
+    byte = bytes_of(separator) if isinstance(separator, str) else bytes(memoryview(separator))
+    others = [chr(it) for it in _SEPARATORS if chr(it) in names[0] and it != byte[0]]
     return f"; separator may have to be {others[0]!r}" if others and len(names) == 1 else ""
 
 
@@ -194,6 +195,8 @@ def ask_names(columns: Columns, names: list[str], how: How) -> None:
                          f"{_hint(names, missing, how)}")
     for name in columns:
         if counts[name] > 1:
-            places = " and ".join(str(k + 1) for k, it in enumerate(names) if it == name)
-            raise ValueError(f"the header has {name!r} as its columns {places}: no name chooses one"
-                             f" of {_listed(names)}")
+            places = [str(k + 1) for k, it in enumerate(names) if it == name]
+            more = ["more"] if len(places) > _LISTED else []
+            raise ValueError(f"the header has {_shown(name)} as its columns"
+                             f" {' and '.join(places[:_LISTED] + more)}: no name chooses one of"
+                             f" {_listed(names)}")

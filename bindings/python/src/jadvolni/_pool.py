@@ -5,7 +5,7 @@ from __future__ import annotations
 import os
 from collections import deque
 from concurrent.futures import Future
-from threading import Condition, Thread, current_thread
+from threading import Condition, RLock, Thread, current_thread
 from typing import Any, Callable, Iterable, Optional, TypeVar
 
 T = TypeVar("T")
@@ -34,7 +34,10 @@ class Pool:
         self.most, self.running = most, 0
         self.threads: list[Thread] = []
         self.calls: deque[_Call] = deque()
-        self.changed = Condition()  # (whose lock guards the calls, and how many threads run)
+        # It guards the calls, and how many threads run. (Entered by its condition, an interruption
+        # could leave it locked: that enters it in Python.)
+        self.lock = RLock()
+        self.changed = Condition(self.lock)
         self.is_left = False
         self.process = os.getpid()
 
@@ -44,7 +47,7 @@ class Pool:
     def __exit__(self, *_: object) -> None:
         if os.getpid() != self.process:
             return  # (a fork has no other thread, so the lock may be held by none)
-        with self.changed:
+        with self.lock:
             self.is_left = True
             self.changed.notify_all()
         if current_thread() in self.threads:
@@ -54,7 +57,7 @@ class Pool:
 
     def _next_call(self) -> Optional[_Call]:
         """The next call for a thread, or None: then the thread ends."""
-        with self.changed:
+        with self.lock:
             self.changed.wait_for(lambda: self.calls or self.is_left, _IDLE)
             if self.calls:
                 return self.calls.popleft()
@@ -73,7 +76,7 @@ class Pool:
         try:
             thread.start()
         except RuntimeError:  # (the system has none left, or the interpreter ends)
-            with self.changed:
+            with self.lock:
                 self.running -= 1
                 self.most = self.running
         else:
@@ -82,14 +85,14 @@ class Pool:
     def submit(self, function: Callable[..., T], *given: Any) -> Future[T]:
         """The future of a call: what it will return or raise."""
         future: Future[T] = Future()
-        with self.changed:
+        with self.lock:
             self.calls.append((future, function, given))
             is_short = self.running < self.most
             self.running += is_short
             self.changed.notify()
         if is_short:
             self._add_thread()
-        with self.changed:
+        with self.lock:
             left = self.calls.pop() if self.calls and not self.running else None
         if left:
             _answer(left)

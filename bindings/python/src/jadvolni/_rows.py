@@ -67,11 +67,10 @@ class Rows:
         """Reads a text from a place on. Returns where it stopped: at the end, when full, or at a
         fault.
 
-        About `behind` more bytes follow the text.
+        About `behind` more bytes follow the text, whose size whoever receives an error may change.
         """
-        size = _text_size(text)
         while True:
-            rows = self._make_room(size - place, behind)
+            rows = self._make_room(max(_text_size(text) - place, 0), behind)
             length, is_end = self._parse(text, place, part, rows)
             place += length
             if is_end or self.is_full():

@@ -13,12 +13,13 @@ from ._blocks import Block, Blocks, File, _block, _one_or_more, _size_left, keep
 from ._core import _row_count, _text_size
 from ._faults import AtFault, Errors, OnError, Part, at_fault, noting
 from ._files import Texts, read_texts, whole_rows
+from ._format import bytes_of
 from ._header import read_header, with_header
 from ._reader import How, Reader, ask_type
 from ._rows import Rows
 from ._table import Table
 from ._texts import Text as TextKind
-from ._threads import bytes_of, parse_in_threads, raise_changed, rows_in_threads
+from ._threads import parse_in_threads, raise_changed, rows_in_threads
 
 if TYPE_CHECKING:
     from ._core import Text

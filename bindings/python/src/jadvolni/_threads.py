@@ -11,6 +11,7 @@ from typing import TYPE_CHECKING, Any, Iterable, Iterator, NoReturn
 from ._core import _move_bits, _row_count, _row_stops
 from ._faults import Fault, Part
 from ._files import Texts, read_texts
+from ._format import bytes_of
 from ._pool import Pool
 from ._reader import Reader, pair_of, with_pair
 from ._rows import Rows
@@ -29,15 +30,18 @@ def raise_changed() -> NoReturn:
     raise RuntimeError("the text was changed while it was read")
 
 
-def bytes_of(text: str) -> bytes:
-    """The bytes of a str as every call reads them, also where it has none in UTF-8."""
-    for errors in "strict", "surrogateescape":
-        with suppress(UnicodeEncodeError):
-            return text.encode("utf-8", errors)
-    return text.encode("utf-8", "surrogatepass")
-
-
 # ---- a text in memory, whose lines say how much room there has to be
+
+def _until_end(held: ExitStack, view: memoryview) -> memoryview:
+    """A view that is released in the end. Where a second interruption lets no thread be waited for,
+    one that reads it still has it, and that isn't what is raised."""
+    def release() -> None:
+        with suppress(BufferError):
+            view.release()
+
+    held.callback(release)
+    return view
+
 
 def _room_behind(
     reader: Reader, arrays: Table, row: int, rows: int, held: ExitStack
@@ -45,7 +49,7 @@ def _room_behind(
     """Room for `rows` rows after `row` others. Its bits are new: both may have bits in one byte."""
     room = {}
     for name, column in reader.read.items():
-        numbers = held.enter_context(memoryview(pair_of(arrays[name])[0])[row:row + rows])
+        numbers = _until_end(held, memoryview(pair_of(arrays[name])[0])[row:row + rows])
         bits = reader.bits(rows) if column.may_miss else None
         room[name] = with_pair(arrays[name], numbers, bits)
         if isinstance(room[name], Room):
@@ -79,7 +83,7 @@ def parse_in_threads(
         whole = held.enter_context(memoryview(bytes_of(text) if isinstance(text, str) else text))
         parts = min(threads, len(whole))
         stops = _row_stops(whole, parts, reader.has_quotes, reader.record)
-        texts = [held.enter_context(whole[start:stop]) for start, stop in zip([0, *stops], stops)]
+        texts = [_until_end(held, whole[start:stop]) for start, stop in zip([0, *stops], stops)]
         lines = pool.map(lambda it: _row_count(it, reader.record), texts)
         if sum(lines) > room:
             raise_changed()
@@ -164,5 +168,8 @@ def rows_in_threads(
             if found:
                 found[-1].raise_fault(row)
                 row += found[-1].end
-    if failed:
-        raise failed
+    try:
+        if failed:
+            raise failed
+    finally:
+        failed = None  # (it has this frame, which would keep it, and with it the last blocks)
