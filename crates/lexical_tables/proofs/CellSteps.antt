@@ -118,3 +118,18 @@ module _ (d : Dialect) (targets : List (Option TargetView)) (column : ℕ) (cell
 
   pub beyond_same : (row : ℕ) → targets ≡ put_read_at row column (answer_at d (kinds_of targets) column cell) targets
   beyond_same row = sym (put_beyond row column (answer_at d (kinds_of targets) column cell) targets high)
+
+-- a column among the targets that isn't read
+module _ (d : Dialect) (targets : List (Option TargetView)) (column : ℕ) (cell : FieldView) (low : column < length targets)
+    (none : is_some (get_or targets column None) ≡ false) where
+  pub unread_at : quote_fault d.has_quotes false cell ≡ fault_in (answer_at d (kinds_of targets) column cell)
+  unread_at =
+      quotes_told (quote_fault d.has_quotes false cell)
+      ∙ ap (λ t. fault_in (answer_as d (kind_in t) cell)) (sym (none_of (get_or targets column None) none))
+      ∙ ap fault_in (sym (answer_is d (kinds_of targets) column cell None (omega (arith, low, length-map targets kind_in))
+      ∙ ap (λ k. answer_as d k cell) (at_map kind_in targets column None)))
+
+  pub unread_stays : (row : ℕ) → targets ≡ put_read_at row column (answer_at d (kinds_of targets) column cell) targets
+  unread_stays row =
+      sym (put_unread row column (answer_at d (kinds_of targets) column cell) targets None low
+      (none_of (get_or targets column None) none))

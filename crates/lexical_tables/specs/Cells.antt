@@ -127,6 +127,11 @@ value_at dialect kind held =
     then Ok None
     else some_value (value_by dialect.has_quotes kind.reading held)
 
+-- what a text at its place stands for in its column
+abbrev pub held_answer : Dialect → Option Kind → FieldView → Result (Option Value) CellFault
+held_answer dialect None held = Ok None
+held_answer dialect (Some kind) held = value_at dialect kind held
+
 -- What a cell stands for in its column, if its quotes are in place: a number, a text with its blanks, or nothing where it
 -- isn't read or is missing. Doubled quotes may stand in a text, as in a cell that isn't read.
 abbrev pub answer_as : Dialect → Option Kind → FieldView → Result (Option Value) CellFault

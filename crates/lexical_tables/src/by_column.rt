@@ -386,7 +386,7 @@ pub fn read_columns<C: TableColumn>(
     ensures goes_on { IfOk result (StopsAt dialect.now rows text.now) }
 {
     let Some(separator) = marked_separator(text, dialect) else {
-        if has_widths(text, dialect) {
+        if has_widths(text, dialect, rows) {
             return read_wide_rows(text, dialect, options, rows, targets);
         }
         return read_unmarked_rows::<C, false>(text, &[], dialect, options, rows, targets);

@@ -6,11 +6,12 @@ ghost use Rattle.lexical_tables.specs.Codes.{AreCodes, IsCodeIn};
 
 use crate::answers::TableError;
 use crate::by_column::read_by_column;
-use crate::codes::{CODED, NOT_READ, U8, UNKNOWN};
+use crate::codes::{CODED, NOT_READ, U8, code_of};
 use crate::content::Cell;
 use crate::dialect::Dialect;
 use crate::digit_cells::{read_coded, read_long_coded};
 use crate::known_cells::{read_known, read_plain};
+use crate::number_cells::read_other_number;
 use crate::targets::TableColumn;
 use lexical_parse_integer::Options;
 
@@ -167,28 +168,15 @@ fn read_known_cell<C: TableColumn>(
     read_known(&mut targets[column], code, row, cell, dialect)
 }
 
-// The code of a column. None is kept of those behind the coded ones.
-#[inline(always)]
-fn code_of(codes: &[u8; CODED], column: usize) -> u8
-    ensures coded { column < length codes.now → result ≡ slice_index codes.now column }
-    ensures behind { length codes.now ≤ column → result ≡ 0 }
-{
-    if column < CODED {
-        codes[column]
-    } else {
-        UNKNOWN
-    }
-}
-
 // How many bytes a cell may have whose digits are all read at once.
 const SHORT: usize = 12;
 
-// Reads the cell of a column that `read_coded_cell` has left, the first `size` bytes of a text, by the column's code: more
-// digits, a text, or a number that is read at once. It returns whether it did.
+// Reads the cell of a column that `read_coded_cell` has left, the first `size` bytes of a text, by the column's code: a text, or a
+// number that is read at once. It returns whether it did.
 #[inline(always)]
 fn read_by_code<C: TableColumn>(
     targets: &mut [C],
-    codes: &[u8; CODED],
+    code: u8,
     column: usize,
     row: usize,
     start: usize,
@@ -196,9 +184,10 @@ fn read_by_code<C: TableColumn>(
     size: usize,
     dialect: &Dialect<'_>,
 ) -> bool
-    requires codes { AreCodes dialect.now codes.now (map C.target targets.old) }
+    requires code { column < length targets.old
+        → IsCodeIn dialect.now code (get_or (map C.target targets.old) column None) }
     requires usable { AreUsable (row + 1) (map C.target targets.old) }
-    requires room { size + 17 ≤ length ahead.now }
+    requires within { size ≤ length ahead.now }
     requires fits { start + size < 2 ^ 64 }
     ensures fault { IsTrue result → fault_in (answer_at dialect.now
         (kinds_of (map C.target targets.old)) column
@@ -208,20 +197,66 @@ fn read_by_code<C: TableColumn>(
         (record { start = start; text = take size ahead.now })) (map C.target targets.old) }
     ensures kept { result ≡ false → map C.target targets.new ≡ map C.target targets.old }
 {
-    let code = code_of(codes, column);
-    if code >= U8 {
-        if size <= SHORT {
-            return false;
-        }
-        return read_long_cell(targets, codes, column, row, ahead, size, dialect);
-    }
-    if code <= NOT_READ {
-        return false;
-    }
     if read_plain_cell(targets, code, column, row, start, ahead, size, dialect) {
         return true;
     }
     read_known_cell(targets, code, column, row, start, ahead, size, dialect)
+}
+
+// Reads the cell of a column with the code of a type that `read_coded_cell` has left, the first `size` bytes of a text, and
+// returns whether it is right: else what is wrong is reported.
+#[inline(always)]
+fn read_typed_cell<C: TableColumn>(
+    targets: &mut [C],
+    codes: &[u8; CODED],
+    code: u8,
+    column: usize,
+    row: usize,
+    start: usize,
+    ahead: &[u8],
+    size: usize,
+    dialect: &Dialect<'_>,
+    options: &Options,
+    wrong: &mut Option<TableError>,
+) -> bool
+    requires fine { wrong.old ≡ None }
+    requires codes { AreCodes dialect.now codes.now (map C.target targets.old) }
+    requires code { column < length targets.old
+        → IsCodeIn dialect.now code (get_or (map C.target targets.old) column None) }
+    requires read { 8 ≤ code }
+    requires usable { AreUsable (row + 1) (map C.target targets.old) }
+    requires room { size + 17 ≤ length ahead.now }
+    requires fits { start + size < 2 ^ 64 }
+    ensures right { result ≡ is_none (fault_in (answer_at dialect.now
+        (kinds_of (map C.target targets.old)) column
+        (record { start = start; text = take size ahead.now }))) }
+    ensures fault { wrong.new ≡ option_map (wrong_cell row column) (fault_in
+        (answer_at dialect.now (kinds_of (map C.target targets.old)) column
+        (record { start = start; text = take size ahead.now }))) }
+    ensures targets { map C.target targets.new ≡ put_read_at row column (answer_at dialect.now
+        (kinds_of (map C.target targets.old)) column
+        (record { start = start; text = take size ahead.now })) (map C.target targets.old) }
+{
+    if size > SHORT && read_long_cell(targets, codes, column, row, ahead, size, dialect) {
+        return true;
+    }
+    if dialect.has_quotes || column >= targets.len() {
+        return read_by_column::<C, false>(
+            targets, column, row, start, ahead, size, dialect, options, wrong,
+        );
+    }
+    read_other_number(
+        &mut targets[column],
+        code,
+        column,
+        row,
+        start,
+        ahead,
+        size,
+        dialect,
+        options,
+        wrong,
+    )
 }
 
 // Reads the cell of a column that `read_coded_cell` has left, the first `size` bytes of a text, and returns whether it is right:
@@ -254,8 +289,16 @@ pub(crate) fn read_left_cell<C: TableColumn>(
         (kinds_of (map C.target targets.old)) column
         (record { start = start; text = take size ahead.now })) (map C.target targets.old) }
 {
-    if read_by_code(targets, codes, column, row, start, ahead, size, dialect) {
-        return true;
+    let code = code_of(codes, column);
+    if code >= U8 {
+        return read_typed_cell(
+            targets, codes, code, column, row, start, ahead, size, dialect, options, wrong,
+        );
+    }
+    if code > NOT_READ {
+        if read_by_code(targets, code, column, row, start, ahead, size, dialect) {
+            return true;
+        }
     }
     read_by_column::<C, false>(
         targets, column, row, start, ahead, size, dialect, options, wrong,

@@ -5,7 +5,7 @@
 //! [`WITH_ZERO_RULE`] where the format forbids zeros in front. Its three lowest bits are the type: 0 to 3 for `u8` to `u64`,
 //! and 4 to 7 for `i8` to `i64`.
 
-ghost use Rattle.std.specs.Prelude.{◌≡◌, ◌<◌, ◌≤◌, Some, is_some, map};
+ghost use Rattle.std.specs.Prelude.{◌≡◌, ◌<◌, ◌≤◌, Some, is_some, length, map, slice_index};
 ghost use Rattle.lexical_tables.specs.Cells.{ends_in_digit};
 ghost use Rattle.lexical_tables.specs.Codes.{AreCodes, IsCode, IsCodeIn, coded_type, has_coded_bits};
 ghost use Rattle.lexical_tables.specs.Readings.{Integers};
@@ -195,4 +195,17 @@ pub(crate) fn put_codes<C: TableColumn>(
         }
     }
     has_calls
+}
+
+// The code of a column. None is kept of those behind the coded ones.
+#[inline(always)]
+pub(crate) fn code_of(codes: &[u8], column: usize) -> u8
+    ensures coded { column < length codes.now → result ≡ slice_index codes.now column }
+    ensures behind { length codes.now ≤ column → result ≡ 0 }
+{
+    if column < codes.len() {
+        codes[column]
+    } else {
+        UNKNOWN
+    }
 }

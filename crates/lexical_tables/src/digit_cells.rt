@@ -17,9 +17,6 @@ use crate::targets::TableColumn;
 use lexical_fields::{long_number_of_front, number_of_front};
 use lexical_parse_integer::Options;
 
-// How many bytes have to follow digits that are read as words.
-const ROOM_BEHIND: usize = 17;
-
 // The text behind the first quote of a cell, and how many of its bytes the cell has between its
 // quotes. Where no two quotes stand around what the cell holds, or quotes have no meaning, these
 // are all of `ahead`, and `size`.
@@ -79,7 +76,7 @@ fn keeps_zero_rule(code: u8, ahead: &[u8], size: usize, is_negative: bool) -> bo
 // Puts a number that was found of a text's first `size` bytes into a row's place, where the column's format and type have
 // it, and returns whether it did.
 #[inline(always)]
-fn put_found<C: TableColumn>(
+pub(crate) fn put_found<C: TableColumn>(
     target: &mut C,
     code: u8,
     row: usize,
@@ -210,44 +207,5 @@ pub(crate) fn read_long_coded<C: TableColumn>(
         held,
         count,
         long_number_of_front(held, count),
-    )
-}
-
-// Reads a cell at once where quotes have no meaning, and what it holds is up to twelve digits alone or behind a minus, and returns
-// whether it did.
-#[inline(always)]
-pub(crate) fn read_unquoted<C: TableColumn>(
-    target: &mut C,
-    code: u8,
-    row: usize,
-    cell: Cell<'_>,
-    dialect: &Dialect<'_>,
-) -> bool
-    requires code { IsCodeIn dialect.now code (C.target target.old) }
-    requires usable { IsUsable (row + 1) (C.target target.old) }
-    requires front { cell.text.now ≡ take (length cell.text.now) cell.ahead.now }
-    requires fits { cell.start + length cell.text.now < 2 ^ 64 }
-    ensures fault { IsTrue result → fault_in (answer_as dialect.now
-        (option_map kind_of (C.target target.old)) (view_of_cell cell.entry)) ≡ None }
-    ensures target { IsTrue result → C.target target.new ≡ option_map (put_read row
-        (answer_as dialect.now (option_map kind_of (C.target target.old))
-        (view_of_cell cell.entry))) (C.target target.old) }
-    ensures kept { result ≡ false → C.target target.new ≡ C.target target.old }
-{
-    if code < U8 || dialect.has_quotes {
-        return false;
-    }
-    let held = content(cell, false, dialect.allows_blanks);
-    let size = held.text.len();
-    if held.ahead.len() - size < ROOM_BEHIND {
-        return false;
-    }
-    put_found(
-        target,
-        code,
-        row,
-        held.ahead,
-        size,
-        number_of_front(held.ahead, size),
     )
 }

@@ -34,6 +34,7 @@ mod known_cells;
 mod marked_rows;
 mod misplaced;
 mod next_part;
+mod number_cells;
 mod numbers;
 mod parsed;
 mod parts;

@@ -326,6 +326,7 @@ fn read_unmarked_row<'a, C: TableColumn, const HAS_CODES: bool>(
 ) -> &'a [u8]
     requires fine { wrong.old ≡ None }
     requires some { 0 < length text.now }
+    requires quotes { IsTrue HAS_CODES → dialect.now.has_quotes ≡ false }
     requires widths { IsTrue HAS_CODES → separator_of dialect.now.layout ≡ None }
     requires codes { AreCodes dialect.now codes.now (map C.target targets.old) }
     requires usable { AreUsable (index + 1) (map C.target targets.old) }
@@ -355,6 +356,7 @@ pub(crate) fn read_unmarked_rows<C: TableColumn, const HAS_CODES: bool>(
     rows: usize,
     targets: &mut [C],
 ) -> Result<Table, TableError>
+    requires quotes { IsTrue HAS_CODES → dialect.now.has_quotes ≡ false }
     requires widths { IsTrue HAS_CODES → separator_of dialect.now.layout ≡ None }
     requires codes { AreCodes dialect.now codes.now (map C.target targets.old) }
     requires usable { AreUsable rows (map C.target targets.old) }

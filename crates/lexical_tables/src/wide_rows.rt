@@ -11,24 +11,27 @@ ghost use Rattle.lexical_tables.specs.Targets.{TargetView};
 use crate::answers::{Table, TableError};
 use crate::by_column::{read_by_column, read_cells};
 use crate::cells::{column_count, lacks_cell, next_cell};
-use crate::codes::{CODED, UNKNOWN, put_codes};
+use crate::codes::{CODED, NOT_READ, U8, UNKNOWN, code_of, put_codes};
 use crate::content::Cell;
 use crate::dialect::{Dialect, Layout};
-use crate::digit_cells::read_unquoted;
+use crate::number_cells::read_number;
 use crate::pass::read_unmarked_rows;
 use crate::rows::{Row, first_row};
 use crate::targets::TableColumn;
 use lexical_parse_integer::Options;
 
-// The fewest bytes of a text for which columns are asked for their codes: a shorter one takes less time than that.
+// The fewest bytes of a text, and the fewest rows, for which columns are asked for their codes: fewer take less time than that.
 const LEAST_CODED: usize = 256;
 
-// Whether cells have widths, in a text that isn't short.
+const LEAST_ROWS: usize = 2;
+
+// Whether cells have widths, and quotes no meaning, in a text that isn't short.
 #[inline(always)]
-pub(crate) fn has_widths(text: &[u8], dialect: &Dialect<'_>) -> bool
-    ensures { IsTrue result → separator_of dialect.now.layout ≡ None }
+pub(crate) fn has_widths(text: &[u8], dialect: &Dialect<'_>, rows: usize) -> bool
+    ensures quotes { IsTrue result → dialect.now.has_quotes ≡ false }
+    ensures widths { IsTrue result → separator_of dialect.now.layout ≡ None }
 {
-    if text.len() < LEAST_CODED {
+    if text.len() < LEAST_CODED || rows < LEAST_ROWS || dialect.has_quotes {
         return false;
     }
     match dialect.layout {
@@ -59,36 +62,6 @@ fn passed_before(columns: usize, row: &Row<'_>, rest: &[u8]) -> Passed
     }
 }
 
-// Reads the cell of a column as `read_unquoted` does, by the column's code.
-#[inline(always)]
-fn read_digits<C: TableColumn>(
-    targets: &mut [C],
-    codes: &[u8],
-    column: usize,
-    row: usize,
-    cell: Cell<'_>,
-    dialect: &Dialect<'_>,
-) -> bool
-    requires codes { AreCodes dialect.now codes.now (map C.target targets.old) }
-    requires usable { AreUsable (row + 1) (map C.target targets.old) }
-    requires front { cell.text.now ≡ take (length cell.text.now) cell.ahead.now }
-    requires fits { cell.start + length cell.text.now < 2 ^ 64 }
-    ensures fault { IsTrue result → fault_in (answer_at dialect.now
-        (kinds_of (map C.target targets.old)) column (view_of_cell cell.entry)) ≡ None }
-    ensures targets { IsTrue result → map C.target targets.new ≡ put_read_at row column
-        (answer_at dialect.now (kinds_of (map C.target targets.old)) column
-        (view_of_cell cell.entry)) (map C.target targets.old) }
-    ensures kept { result ≡ false → map C.target targets.new ≡ map C.target targets.old }
-{
-    if column >= codes.len() {
-        return false;
-    }
-    if column >= targets.len() {
-        return false;
-    }
-    read_unquoted(&mut targets[column], codes[column], row, cell, dialect)
-}
-
 // Reads the cell of a column, and returns whether it is right: else what is wrong is reported.
 #[inline(always)]
 #[tactic(auto, using(crate::proofs::MarkedCells::ahead_long))]
@@ -103,6 +76,7 @@ fn read_wide_cell<C: TableColumn>(
     wrong: &mut Option<TableError>,
 ) -> bool
     requires fine { wrong.old ≡ None }
+    requires quotes { dialect.now.has_quotes ≡ false }
     requires codes { AreCodes dialect.now codes.now (map C.target targets.old) }
     requires usable { AreUsable (row + 1) (map C.target targets.old) }
     requires front { cell.text.now ≡ take (length cell.text.now) cell.ahead.now }
@@ -116,8 +90,24 @@ fn read_wide_cell<C: TableColumn>(
         (kinds_of (map C.target targets.old)) column (view_of_cell cell.entry))
         (map C.target targets.old) }
 {
-    if read_digits(targets, codes, column, row, cell, dialect) {
+    if column >= targets.len() {
         return true;
+    }
+    let code = code_of(codes, column);
+    if code == NOT_READ {
+        return true;
+    }
+    if code >= U8 {
+        return read_number(
+            &mut targets[column],
+            code,
+            column,
+            row,
+            cell,
+            dialect,
+            options,
+            wrong,
+        );
     }
     read_by_column::<C, true>(
         targets,
@@ -145,6 +135,7 @@ fn read_wide_cells<C: TableColumn>(
     wrong: &mut Option<TableError>,
 ) -> Passed
     requires fine { wrong.old ≡ None }
+    requires quotes { dialect.now.has_quotes ≡ false }
     requires widths { separator_of dialect.now.layout ≡ None }
     requires codes { AreCodes dialect.now codes.now (map C.target targets.old) }
     requires usable { AreUsable (index + 1) (map C.target targets.old) }
@@ -203,6 +194,7 @@ pub(crate) fn read_wide_row<'a, C: TableColumn>(
 ) -> &'a [u8]
     requires fine { wrong.old ≡ None }
     requires some { 0 < length text.now }
+    requires quotes { dialect.now.has_quotes ≡ false }
     requires widths { separator_of dialect.now.layout ≡ None }
     requires codes { AreCodes dialect.now codes.now (map C.target targets.old) }
     requires usable { AreUsable (index + 1) (map C.target targets.old) }
@@ -235,6 +227,17 @@ pub(crate) fn read_wide_row<'a, C: TableColumn>(
     behind
 }
 
+// Whether the code of a column says more than to ask it: then its cells are read faster. It decides no answer.
+fn has_known_cells(codes: &[u8; CODED], count: usize) -> bool {
+    for column in 0..count.min(CODED) {
+        let code = codes[column];
+        if code == NOT_READ || code >= U8 {
+            return true;
+        }
+    }
+    false
+}
+
 // `read_columns` of a text whose cells have widths, by the columns' codes. Out of line: other texts don't have these.
 #[inline(never)]
 pub(crate) fn read_wide_rows<C: TableColumn>(
@@ -244,6 +247,7 @@ pub(crate) fn read_wide_rows<C: TableColumn>(
     rows: usize,
     targets: &mut [C],
 ) -> Result<Table, TableError>
+    requires quotes { dialect.now.has_quotes ≡ false }
     requires widths { separator_of dialect.now.layout ≡ None }
     requires usable { AreUsable rows (map C.target targets.old) }
     ensures answer { result ≡ columns_answer (kinds_of (map C.target targets.old)) dialect.now rows
@@ -254,5 +258,8 @@ pub(crate) fn read_wide_rows<C: TableColumn>(
 {
     let mut codes = [UNKNOWN; CODED];
     put_codes(dialect, targets, &mut codes);
+    if !has_known_cells(&codes, targets.len()) {
+        return read_unmarked_rows::<C, false>(text, &codes, dialect, options, rows, targets);
+    }
     read_unmarked_rows::<C, true>(text, &codes, dialect, options, rows, targets)
 }
