@@ -55,7 +55,7 @@ numbers_read code (Integers format type) coded = refl
 numbers_read code (FixedPoints fixed type) coded = absurd coded
 numbers_read code Texts coded = absurd coded
 
-pub has_read : (code : ℕ) (target : Option TargetView) → IsReadAs code target → has_numbers target ≡ true
+has_read : (code : ℕ) (target : Option TargetView) → IsReadAs code target → has_numbers target ≡ true
 has_read code None read = absurd read
 has_read code (Some target) read = numbers_read code target.reading read.0
 

@@ -17,7 +17,6 @@ pub mod LineSteps
 pub mod Looks
 pub mod MarkedCells
 pub mod NearCells
-pub mod NumberCells
 pub mod NumbersPut
 pub mod OutsideInParts
 pub mod OutsideSteps

@@ -26,7 +26,6 @@ mod dialect;
 mod digit_cells;
 mod ends;
 mod far_cells;
-mod far_ends;
 mod fixed_targets;
 mod fold;
 mod header;

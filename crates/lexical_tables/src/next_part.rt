@@ -6,8 +6,7 @@ ghost use Rattle.lexical_tables.specs.RowSoFar.{IsBehind, IsMarked, IsOnRow, IsP
 ghost use Rattle.lexical_tables.specs.Rows.{carriage_return, line_feed};
 
 use crate::dialect::Dialect;
-use crate::ends::{behind_end, first_end};
-use crate::far_ends::far_end;
+use crate::ends::{behind_end, far_end, first_end};
 
 // What is left of a text, and the marks of where its first cells end.
 #[derive(Copy, Clone)]

@@ -1,7 +1,7 @@
 use Rattle.std.proofs.Common.{◌≡◌, ◌&&◌, ◌-◌, ◌<◌, ◌≤◌, ℕ, false, length, take}
 use Rattle.lexical_tables.specs.Ends.{is_end}
 use Rattle.lexical_tables.specs.Quotes.{has_odd_quotes}
-use Rattle.lexical_tables.proofs.far_ends.far_end.Given as goal
+use Rattle.lexical_tables.proofs.ends.far_end.Given as goal
 
 -- the first `place` bytes were passed, and no cell ends there
 abbrev pub invariant-loop-place : goal.invariant-loop-place

@@ -2,7 +2,7 @@ use Rattle.std.proofs.Common.{◌+◌, ◌≤◌, arith, length, sym, subst, dro
 use Rattle.std.proofs.lemmas.Bool.Decides.{nat_tests}
 use Rattle.lexical_tables.specs.Ends.{AreEnds}
 use Rattle.lexical_tables.proofs.CellEnds.{far_end, none_to}
-use Rattle.lexical_tables.proofs.far_ends.far_end.Goals as goal
+use Rattle.lexical_tables.proofs.ends.far_end.Goals as goal
 
 pub overflow_add-result : goal.overflow_add-result
 overflow_add-result c =
