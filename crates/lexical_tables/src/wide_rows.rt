@@ -227,7 +227,7 @@ pub(crate) fn read_wide_row<'a, C: TableColumn>(
     behind
 }
 
-// Whether the code of a column says more than to ask it: then its cells are read faster. It decides no answer.
+// Whether the cells of a column are read faster by its code than by asking it. No answer depends on this: either loop has each.
 fn has_known_cells(codes: &[u8; CODED], count: usize) -> bool {
     for column in 0..count.min(CODED) {
         let code = codes[column];
