@@ -1,17 +1,19 @@
 -- What one look tells of where cells end: the marks of two bytes, and which of them stand outside quotes.
-use Rattle.std.proofs.Common.{◌≡◌, ◌≢◌, ◌∙◌, ℕ, suc, ◌+◌, ◌%◌, ◌^◌, ◌==◌, ◌<◌, ◌≤◌, not, List, length, take, map, replicate, get_or, Bool, true, false, cond, min, eqb, refl, ap, ap₂, sym, arith}
+use Rattle.std.proofs.Common.{◌≡◌, ◌≢◌, ◌∙◌, ℕ, suc, ◌+◌, ◌-◌, ◌*◌, ◌%◌, ◌^◌, ◌==◌, ◌<◌, ◌≤◌, not, List, length, take, map, replicate, get_or, Bool, true, false, cond, min, eqb, refl, ap, ap₂, sym, arith}
 use Rattle.std.specs.Prelude.{◌&&◌, ◌||◌}
 use Rattle.std.specs.Int.{bit_at}
 use Rattle.std.specs.Int.Bits.{bit_and, bit_or}
 use Rattle.std.specs.Simd.Lanes.{zip2, mask_l, top}
 use Rattle.std.proofs.lemmas.Bool.{ne_eqb}
-use Rattle.std.proofs.lemmas.List.{get_or-map, get_or-replicate, length-map, length-replicate}
-use Rattle.std.proofs.lemmas.Nat.Bits.{bit_at-zero, bit_at_and}
+use Rattle.std.proofs.lemmas.List.{get_or-map, get_or-replicate, get_or-take, length-map, length-replicate}
+use Rattle.std.proofs.lemmas.Nat.Bits.{bit_at-lt, bit_at-zero, bit_at_and, bit_at_ones, bit_at_ones_above}
+use Rattle.std.proofs.Math.Pow.{pow-lt}
 use Rattle.std.proofs.lemmas.Simd.{bit_mask_l, get_or-zip2, length-zip2, mask_l-mod}
 use Rattle.lexical_tables.specs.Ends.{is_end}
-use Rattle.lexical_tables.specs.Quotes.{has_odd_quotes, hidden, quote}
+use Rattle.lexical_tables.specs.Quotes.{has_odd_quotes, hidden, quote, seen}
 use Rattle.lexical_tables.specs.Rows.{line_feed}
 use Rattle.lexical_tables.proofs.Passed.{hidden_at}
+use Rattle.lexical_tables.proofs.SeenBytes.{seen_take}
 
 -- ---- two bytes at once
 
@@ -114,3 +116,44 @@ module _ (q : Bool) (s : ℕ) (text : List ℕ) (quoted : q ≡ true) (apart : s
           ≡ cond (cond w false ((get_or text (place + k) 0 == s) || (get_or text (place + k) 0 == line_feed))) 1 0
       by_within true inner outer = ap (λ m. bit_at m k) (inner refl) ∙ bit_at-zero k
       by_within false inner outer = ap (λ m. bit_at m k) (outer refl) ∙ is
+
+-- ---- a look at a copy of the first bytes
+
+-- the first bytes tell of the ends among them
+pub same_end : (q : Bool) (s : ℕ) (bytes text : List ℕ) (n k : ℕ) → take n bytes ≡ take n text → k < n
+    → is_end q s bytes k ≡ is_end q s text k
+same_end q s bytes text n k same low = ap₂ (λ x y. (x == s) || (y == line_feed)) (at s) (at line_feed)
+  where
+    at : (sought : ℕ) → get_or (seen q sought bytes) k 0 ≡ get_or (seen q sought text) k 0
+    at sought =
+        sym (get_or-take n (seen q sought bytes) k 0 low)
+        ∙ ap (λ l. get_or l k 0) (sym (seen_take q sought n bytes) ∙ ap (seen q sought) same ∙ seen_take q sought n text)
+        ∙ get_or-take n (seen q sought text) k 0 low
+
+-- the marks below a place
+abbrev pub marks_below : ℕ → ℕ → ℕ
+marks_below n marks = bit_and marks (1 * 2 ^ n % 2 ^ 64 - 1)
+
+ones : (n : ℕ) → n < 64 → 1 * 2 ^ n % 2 ^ 64 - 1 ≡ 2 ^ n - 1
+ones n few = ap (λ m. m - 1) (small (2 ^ n) (pow-lt few))
+  where
+    small : (m : ℕ) → m < 18446744073709551616 → 1 * m % 18446744073709551616 ≡ m
+    small m low = omega (arith, low)
+
+-- are those that were there
+pub low_mark : (marks n k : ℕ) → n < 64 → k < n → bit_at (marks_below n marks) k ≡ bit_at marks k
+low_mark marks n k few low =
+    ap (λ m. bit_at (bit_and marks m) k) (ones n few) ∙ bit_at_and marks (2 ^ n - 1) k
+    ∙ ap (min (bit_at marks k)) (bit_at_ones n k low) ∙ bit (bit_at marks k) (bit_at-lt marks k)
+  where
+    bit : (b : ℕ) → b < 2 → min b 1 ≡ b
+    bit b small = omega (arith, small)
+
+-- and no other
+pub no_mark : (marks n k : ℕ) → n < 64 → n ≤ k → bit_at (marks_below n marks) k ≡ 0
+no_mark marks n k few high =
+    ap (λ m. bit_at (bit_and marks m) k) (ones n few) ∙ bit_at_and marks (2 ^ n - 1) k
+    ∙ ap (min (bit_at marks k)) (bit_at_ones_above n k high) ∙ none (bit_at marks k)
+  where
+    none : (b : ℕ) → min b 0 ≡ 0
+    none b = omega arith

@@ -84,14 +84,45 @@ pub(crate) fn look_at_64(
     }
 }
 
-// The ends of cells among the first bytes of a text, a bit for each, and none where the text is short.
+// How many bytes have to follow each marked one.
+const ROOM_BEHIND: usize = 16;
+
+// The first `size` bytes of a text, and zeros behind them.
+#[inline(always)]
+fn with_zeros_behind(text: &[u8], size: usize) -> [u8; 64]
+    requires few { size ≤ 64 }
+    requires within { size ≤ length text.now }
+    ensures { take size result ≡ take size text.now }
+{
+    let mut bytes = [0; 64];
+    bytes[..size].copy_from_slice(&text[..size]);
+    bytes
+}
+
+// The ends of cells in a text that is too short for a look at 64 of its bytes. Out of line: it is asked near a text's end alone.
+#[inline(never)]
+fn ends_near_end(text: &[u8], separator: u8, has_quotes: bool) -> u64
+    requires quoted { has_quotes ≡ true → separator ≢ quote }
+    requires few { length text.now < 80 }
+    ensures { AreEnds has_quotes separator text.now result }
+{
+    if text.len() <= ROOM_BEHIND {
+        return 0;
+    }
+    let seen = text.len() - ROOM_BEHIND;
+    let bytes = with_zeros_behind(text, seen);
+    let look = look_at_64(&bytes, 0, separator, has_quotes, false);
+    look.ends & ((1 << seen) - 1)
+}
+
+// The ends of cells among the first bytes of a text, a bit for each.
 #[inline(always)]
 fn ends_in_front(text: &[u8], separator: u8, has_quotes: bool) -> u64
     requires quoted { has_quotes ≡ true → separator ≢ quote }
     ensures { AreEnds has_quotes separator text.now result }
 {
     if text.len() < LEAST_MARKED {
-        return 0;
+        return ends_near_end(text, separator, has_quotes);
     }
     look_at_64(text, 0, separator, has_quotes, false).ends
 }
