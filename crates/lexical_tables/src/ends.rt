@@ -9,9 +9,11 @@ use crate::quotes::parities::odd_to_64;
 use lexical_fields::lowest_mark;
 use std::simd::prelude::*;
 
-// The fewest bytes of a text that has marks. These are of its first 64 bytes, since sixteen more
-// have to follow each marked byte.
-pub(crate) const LEAST_MARKED: usize = 80;
+// How many bytes have to follow each marked one.
+const ROOM_BEHIND: usize = 16;
+
+// The fewest bytes of a text whose first 64 bytes are marked by one look.
+pub(crate) const LEAST_MARKED: usize = 64 + ROOM_BEHIND;
 
 // A bit for each of 64 bytes, set where it is `byte`.
 #[inline(always)]
@@ -83,9 +85,6 @@ pub(crate) fn look_at_64(
         is_within: is_within != is_odd,
     }
 }
-
-// How many bytes have to follow each marked one.
-const ROOM_BEHIND: usize = 16;
 
 // The first `size` bytes of a text, and zeros behind them.
 #[inline(always)]
