@@ -11,7 +11,7 @@ use crate::content::Cell;
 use crate::dialect::Dialect;
 use crate::digit_cells::{read_coded, read_long_coded};
 use crate::known_cells::{read_known, read_plain};
-use crate::number_cells::read_other_number;
+use crate::number_cells::{SHORT, read_other_number};
 use crate::targets::TableColumn;
 use lexical_parse_integer::Options;
 
@@ -167,9 +167,6 @@ fn read_known_cell<C: TableColumn>(
     };
     read_known(&mut targets[column], code, row, cell, dialect)
 }
-
-// How many bytes a cell may have whose digits are all read at once.
-const SHORT: usize = 12;
 
 // Reads the cell of a column that `read_coded_cell` has left, the first `size` bytes of a text, by the column's code: a text, or a
 // number that is read at once. It returns whether it did.

@@ -18,6 +18,9 @@ use lexical_parse_integer::Options;
 // How many bytes have to follow digits that are read as words.
 const ROOM_BEHIND: usize = 17;
 
+// How many bytes a cell may have whose digits are all read at once.
+pub(crate) const SHORT: usize = 12;
+
 // Whether a text is too near the end of what begins with it to be read as words.
 #[inline(always)]
 fn is_near_end(held: Cell<'_>) -> bool
@@ -82,8 +85,10 @@ pub(crate) fn read_held_number<C: TableColumn>(
         return true;
     }
     let held = Cell { start, text, ahead };
-    if is_near_end(held) && had_at_once(target, row, held) {
-        return true;
+    if size > SHORT || is_near_end(held) {
+        if had_at_once(target, row, held) {
+            return true;
+        }
     }
     match target.read_left(row, start, text, ahead, options) {
         Some(error) => {
