@@ -5,7 +5,7 @@ use Rattle.std.specs.Int.{bit_at}
 use Rattle.std.specs.Int.Bits.{bit_and, bit_or}
 use Rattle.std.specs.Simd.Lanes.{zip2, mask_l, top}
 use Rattle.std.proofs.lemmas.Bool.{ne_eqb}
-use Rattle.std.proofs.lemmas.List.{get_or-map, get_or-replicate, get_or-take, length-map, length-replicate}
+use Rattle.std.proofs.lemmas.List.{get_or-map, get_or-replicate, get_or-take, length-map, length-replicate, take-take}
 use Rattle.std.proofs.lemmas.Nat.Bits.{bit_at-lt, bit_at-zero, bit_at_and, bit_at_ones, bit_at_ones_above}
 use Rattle.std.proofs.Math.Pow.{pow-lt}
 use Rattle.std.proofs.lemmas.Simd.{bit_mask_l, get_or-zip2, length-zip2, mask_l-mod}
@@ -129,6 +129,10 @@ same_end q s bytes text n k same low = ap₂ (λ x y. (x == s) || (y == line_fee
         sym (get_or-take n (seen q sought bytes) k 0 low)
         ∙ ap (λ l. get_or l k 0) (sym (seen_take q sought n bytes) ∙ ap (seen q sought) same ∙ seen_take q sought n text)
         ∙ get_or-take n (seen q sought text) k 0 low
+
+-- fewer bytes are the same where more are
+pub fewer_same : (bytes text : List ℕ) (m n : ℕ) → take n bytes ≡ take n text → m ≤ n → take m bytes ≡ take m text
+fewer_same bytes text m n same low = sym (take-take m n bytes low) ∙ ap (take m) same ∙ take-take m n text low
 
 -- the marks below a place
 abbrev pub marks_below : ℕ → ℕ → ℕ

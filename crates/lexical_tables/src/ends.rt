@@ -1,5 +1,5 @@
 // Where a row's cells end: at separators and line feeds outside quotes, which looks at 64 bytes mark.
-ghost use Rattle.std.specs.Prelude.{◌≡◌, ◌≢◌, ◌==◌, ◌&&◌, ◌||◌, ◌+◌, ◌/◌, ◌^◌, ◌<◌, ◌≤◌, ℕ, IfSome, true, if◌then◌else◌, length, drop, slice_index, take};
+ghost use Rattle.std.specs.Prelude.{◌≡◌, ◌≢◌, ◌==◌, ◌&&◌, ◌||◌, ◌+◌, ◌++◌, ◌/◌, ◌^◌, ◌<◌, ◌≤◌, ℕ, IfSome, true, if◌then◌else◌, length, drop, slice_index, take};
 ghost use Rattle.std.specs.Int.{bit_at};
 ghost use Rattle.lexical_tables.specs.Ends.{AreEnds, IsFirstEnd, is_end};
 ghost use Rattle.lexical_tables.specs.Quotes.{has_odd_quotes, quote};
@@ -86,15 +86,49 @@ pub(crate) fn look_at_64(
     }
 }
 
-// The first `size` bytes of a text, and zeros behind them.
+// Puts sixteen bytes at a place.
 #[inline(always)]
-fn with_zeros_behind(text: &[u8], size: usize) -> [u8; 64]
-    requires few { size ≤ 64 }
-    requires within { size ≤ length text.now }
-    ensures { take size result ≡ take size text.now }
+fn put_16(bytes: &mut [u8; 64], piece: &[u8], place: usize)
+    requires room { place + 16 ≤ 64 }
+    requires long { length piece.now ≡ 16 }
+    ensures { take (place + 16) bytes.new ≡ take place bytes.old ++ piece.now }
+{
+    bytes[place..place + 16].copy_from_slice(piece);
+}
+
+// Copies sixteen bytes of a text to the same place.
+#[inline(always)]
+fn copy_16(bytes: &mut [u8; 64], text: &[u8], place: usize)
+    requires room { place + 16 ≤ 64 }
+    requires within { place + 16 ≤ length text.now }
+    requires front { take place bytes.old ≡ take place text.now }
+    ensures { take (place + 16) bytes.new ≡ take (place + 16) text.now }
+{
+    put_16(bytes, &text[place..place + 16], place);
+}
+
+// The first bytes of a text that has at least sixteen, up to 64 of them, and zeros behind them. Sixteen at a time: a copy of any
+// other size may become a call of `memcpy`, and the library for C links without C's.
+#[inline(always)]
+fn with_zeros_behind(text: &[u8]) -> [u8; 64]
+    requires some { 16 ≤ length text.now }
+    ensures { (size : ℕ) → size + 16 ≤ length text.now → size ≤ 64
+        → take size result ≡ take size text.now }
 {
     let mut bytes = [0; 64];
-    bytes[..size].copy_from_slice(&text[..size]);
+    copy_16(&mut bytes, text, 0);
+    if text.len() < 32 {
+        return bytes;
+    }
+    copy_16(&mut bytes, text, 16);
+    if text.len() < 48 {
+        return bytes;
+    }
+    copy_16(&mut bytes, text, 32);
+    if text.len() < 64 {
+        return bytes;
+    }
+    copy_16(&mut bytes, text, 48);
     bytes
 }
 
@@ -109,7 +143,7 @@ fn ends_near_end(text: &[u8], separator: u8, has_quotes: bool) -> u64
         return 0;
     }
     let seen = text.len() - ROOM_BEHIND;
-    let bytes = with_zeros_behind(text, seen);
+    let bytes = with_zeros_behind(text);
     let look = look_at_64(&bytes, 0, separator, has_quotes, false);
     look.ends & ((1 << seen) - 1)
 }

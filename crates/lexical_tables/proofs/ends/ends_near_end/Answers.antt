@@ -16,6 +16,7 @@ returns c =
           ∙ c.look_at_64-look.ensures.here k (omega (arith, few, low))
           ∙ ap (λ t. cond {A = ℕ} t 1 0) (ap (is_end c.args.has_quotes c.args.separator c.with_zeros_behind-bytes.result) at
           ∙ same_end c.args.has_quotes c.args.separator c.with_zeros_behind-bytes.result c.args.text.now
-          (length c.args.text.now - 16) k c.with_zeros_behind-bytes.ensures low);
+          (length c.args.text.now - 16) k (c.with_zeros_behind-bytes.ensures (length c.args.text.now - 16)
+          (omega (arith, c.if-text-le-ROOM_BEHIND.false)) (omega (arith, few))) low);
       beyond = λ k high. no_mark c.look_at_64-look.result.ends (length c.args.text.now - 16) k few high;
     }
