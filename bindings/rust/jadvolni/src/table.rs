@@ -8,7 +8,7 @@ use core::ptr::null;
 use jadvolni_sys as sys;
 
 /// How a table is written: what separates two cells, and how it differs from plain lines.
-#[derive(Debug, Copy, Clone)]
+#[derive(Copy, Clone)]
 pub struct Dialect<'a>(pub(crate) sys::jadvolni_table, PhantomData<&'a [u8]>);
 
 // SAFETY: its pointers are those of slices that it has borrowed, and are read alone.
@@ -122,6 +122,31 @@ impl<'a> Dialect<'a> {
         }
         // SAFETY: they are those of the slice that was borrowed, which isn't empty.
         unsafe { core::slice::from_raw_parts(self.0.widths, self.0.width_count) }
+    }
+
+    /// What stands for a missing number or text.
+    fn missing_mark(&self) -> &'a [u8] {
+        if self.0.missing_len == 0 {
+            return &[];
+        }
+        // SAFETY: it is that of the slice that was borrowed, which isn't empty.
+        unsafe { core::slice::from_raw_parts(self.0.missing.cast(), self.0.missing_len) }
+    }
+}
+
+impl fmt::Debug for Dialect<'_> {
+    /// What was set, with the bytes of what stands for a missing number.
+    fn fmt(&self, f: &mut fmt::Formatter<'_>) -> fmt::Result {
+        let (how, flag) = (&self.0, |byte: u8| byte != 0);
+        let mut shown = f.debug_struct("Dialect");
+        shown.field("separator", &format_args!("b'{}'", how.separator.escape_ascii()));
+        shown.field("has_returns", &flag(how.has_returns));
+        shown.field("allows_returns", &flag(how.allows_returns));
+        shown.field("has_quotes", &flag(how.has_quotes));
+        shown.field("allows_blanks", &flag(how.allows_blanks));
+        shown.field("skips_empty_rows", &flag(how.skips_empty_rows));
+        shown.field("missing", &format_args!("b\"{}\"", self.missing_mark().escape_ascii()));
+        shown.field("widths", &self.widths()).field("is_records", &flag(how.is_records)).finish()
     }
 }
 

@@ -1,11 +1,11 @@
 //! The columns of a table: what their cells look like, and the slices that they are stored in.
 
 use crate::{CellText, ColumnInteger, Fixed, Format};
+use core::fmt;
 use core::marker::PhantomData;
 use jadvolni_sys as sys;
 
 /// A column of a table, which is read into a slice, or isn't read.
-#[derive(Debug)]
 #[repr(transparent)]
 pub struct TableColumn<'a>(sys::jadvolni_table_column, PhantomData<&'a mut ()>);
 
@@ -70,6 +70,26 @@ impl<'a> TableColumn<'a> {
     fn room(&self) -> Option<usize> {
         let room = self.rooms_of_arrays().into_iter().flatten().next()?;
         Some(room_of(self.0.present).map_or(room, |bytes| room.min(bytes.saturating_mul(8))))
+    }
+}
+
+impl fmt::Debug for TableColumn<'_> {
+    /// What its cells look like, and how many rows it has room for: neither what is stored, nor where.
+    fn fmt(&self, f: &mut fmt::Formatter<'_>) -> fmt::Result {
+        let (Some(items), Some(room)) = (self.items(), self.room()) else {
+            return f.write_str("UNREAD");
+        };
+        let mut shown = f.debug_struct("TableColumn");
+        shown.field("items", &format_args!("{items}")).field("room", &room);
+        shown.field("has_bits", &room_of(self.0.present).is_some());
+        if items != "text" {
+            shown.field("format", &Format(self.0.format));
+        }
+        if items != "text" && self.0.places != 0 {
+            shown.field("places", &self.0.places).field("point", &self.0.point);
+            shown.field("takes_fewer", &self.0.takes_fewer);
+        }
+        shown.finish()
     }
 }
 
@@ -168,6 +188,12 @@ macro_rules! arrays {
             /// The room of each array that is set.
             fn rooms_of_arrays(&self) -> impl IntoIterator<Item = Option<usize>> {
                 [$(room_of(self.0.$name)),*]
+            }
+
+            /// The name of the array that is set: the type of its numbers, or `text`.
+            fn items(&self) -> Option<&'static str> {
+                let mut names = [$((room_of(self.0.$name), stringify!($name))),*].into_iter();
+                names.find_map(|(room, name)| room.and(Some(name)))
             }
         }
     };

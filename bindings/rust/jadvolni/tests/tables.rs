@@ -2,8 +2,8 @@
 #![cfg(feature = "std")]
 
 use jadvolni::{
-    parse_table, parse_table_part, Dialect, Error, Format, Table, TableColumn, TableError,
-    TableReadError, TableReader,
+    parse_table, parse_table_part, CellText, Dialect, Error, Fixed, Format, Table, TableColumn,
+    TableError, TableReadError, TableReader,
 };
 use std::io::ErrorKind;
 
@@ -241,4 +241,23 @@ fn records_from_a_reader() {
     }
     let (_, told) = rows_of(device(b"12a", 9, None), records, 1, 4);
     assert!(matches!(told[..], [TableReadError::LongRow(0)]));
+}
+
+#[test]
+fn shown_for_debugging_tables_have_no_addresses() {
+    let (mut numbers, mut bits, mut cents) = ([0u8; 9], [0u8; 1], [0i64; 9]);
+    let number = TableColumn::of(&mut numbers).with_bits(&mut bits);
+    let (standard, amount) = (Format::STANDARD, Fixed::of_places(2).point(b','));
+    let shown = "TableColumn { items: u8, room: 8, has_bits: true, format: ";
+    assert_eq!(format!("{number:?}"), format!("{shown}{standard:?} }}"));
+    let amount = format!("{:?}", TableColumn::of_fixed(&mut cents, &amount));
+    assert!(amount.ends_with(", places: 2, point: 44, takes_fewer: 0 }"), "{amount}");
+    let texts = format!("{:?}", TableColumn::of_texts(&mut [CellText::NONE; 3]));
+    assert_eq!(texts, "TableColumn { items: text, room: 3, has_bits: false }");
+    assert_eq!(format!("{:?}", TableColumn::UNREAD), "UNREAD");
+    let dialect = Dialect::of_widths(&[3, 4]).missing(b"N\0").has_quotes(true);
+    let shown = "Dialect { separator: b'\\x00', has_returns: false, allows_returns: false, has_quotes: true, \
+        allows_blanks: false, skips_empty_rows: false, missing: b\"N\\x00\", widths: [3, 4], is_records: false }";
+    assert_eq!(format!("{dialect:?}"), shown);
+    assert!(format!("{:?}", comma()).ends_with("missing: b\"\", widths: [], is_records: false }"));
 }
