@@ -906,9 +906,9 @@ typedef struct jadvolni_table {
     uint8_t reserved[9];
 
     /* What stands for a missing number or text, byte for byte, in columns that have bits. It is all that
-     * a cell holds: what stands within its quotes, if it has them, with doubled ones as they are; and for
-     * a number, without its blanks if they are allowed. With no bytes, an empty cell stands for one, and
-     * so does one of two quotes, "", if the table has quotes; and `missing` may be NULL. */
+     * a cell holds: what stands within its quotes, if it has them, in a text with doubled ones as they
+     * are; and for a number, without its blanks if they are allowed. With no bytes, an empty cell stands
+     * for one, and so does one of two quotes, "", if the table has quotes; and `missing` may be NULL. */
     const char *missing;
     size_t missing_len;
 
@@ -1019,8 +1019,9 @@ typedef struct jadvolni_table_result {
  *                 jadvolni_table_text(r, &ledger, 1000, columns, 3));
  *
  *     r.status  JADVOLNI_OK, or the first fault in reading order: row by row, and in each row first its
- *               cells, then their number, then the carriage return. The table and its columns are
- *               checked before the text: of each column first the room, then the format.
+ *               cells, then their number, then the carriage return. A cell's quotes come before its
+ *               number: in 1x" the quote is misplaced. The table and its columns are checked before the
+ *               text: of each column first the room, then the format.
  *     r.column  At a fault, the column, from 0. If a row has too few cells, how many it has; if it has
  *               too many or lacks its carriage return, how many columns there are. Otherwise 0.
  *     r.rows    How many rows were read; so at a fault of the text, the number of its row, from 0.
@@ -1122,10 +1123,11 @@ typedef struct jadvolni_cells_result {
  *     cells     Where they are, from `first` on, as long as there is room. The rest of the array is
  *               unchanged.
  *
- * With widths, the cells are those that are complete, and one more if bytes are left. With separators, an
- * empty row has one empty cell; an empty text has no row. An empty row counts here even if the table
- * skips empty rows, and the contents of cells aren't checked. In "ab;;\"c;d\"\r\n", with quotes and
- * returns, there are 3 cells; from column 1 on they are at 3 with 0 bytes and at 4 with 5.
+ * With widths, the cells are those that are complete, and one more if bytes follow the last column: of
+ * the widths 2 and 3 "ab12" has 1 cell, and "ab1234" has 3. With separators, an empty row has one empty
+ * cell; an empty text has no row. An empty row counts here even if the table skips empty rows, and the
+ * contents of cells aren't checked. In "ab;;\"c;d\"\r\n", with quotes and returns, there are 3 cells; from
+ * column 1 on they are at 3 with 0 bytes and at 4 with 5.
  *
  * The text and the table must be as for jadvolni_row_place. `cells` points to `capacity` writable
  * structs, and may be NULL if that is 0. They overlap nothing else. It takes the time to scan the row.
