@@ -112,10 +112,18 @@ impl core::error::Error for HeaderError {}
 ///
 /// That row follows the rules of the table: a name may be enclosed in quotes, and may then contain separators, line
 /// feeds and doubled quotes; blanks around it, within its quotes if it has them, are ignored if the table allows them.
-#[derive(Debug, Clone, PartialEq, Eq)]
+#[derive(Clone, PartialEq, Eq)]
 pub struct Header {
     names: Vec<Vec<u8>>,
     stop: usize,
+}
+
+impl fmt::Debug for Header {
+    /// The names as texts, and where the header stops.
+    fn fmt(&self, f: &mut fmt::Formatter<'_>) -> fmt::Result {
+        let names: Vec<_> = self.names().collect();
+        f.debug_struct("Header").field("names", &names).field("stop", &self.stop).finish()
+    }
 }
 
 impl Header {

@@ -167,3 +167,9 @@ fn a_reader_gives_the_rows_behind_the_header() {
     let mut long = TableReader::with_capacity(4, &b"id,cents\n1,2\n"[..], comma());
     assert!(matches!(long.header(), Err(TableReadError::LongRow(0))));
 }
+
+#[test]
+fn shown_for_debugging_a_header_has_texts() {
+    let header = Header::of(b"id,na\xffme\n1,x\n", &comma()).unwrap();
+    assert_eq!(format!("{header:?}"), "Header { names: [\"id\", \"na\u{fffd}me\"], stop: 9 }");
+}
