@@ -326,6 +326,7 @@ class Names(unittest.TestCase):
              "; separator may have to be ','"),
             (b'day,"id","amount"\r\n', {}, "; has_quotes may have to be True"),
             (b'id,"a text\nin two lines",amount\n', {}, "; has_quotes may have to be True"),
+            (b'"id","amount"\r\n', {"has_quotes": True}, "; allows_returns may have to be True"),
             (b'"id","amounts"\n', {"has_quotes": True}, ": it has 'id', 'amounts'"),
             ("id,amount\n".encode("utf-16"), {}, "; the text may be UTF-16, and has to be UTF-8"),
             (gzip.compress(b"id,amount\n1,2\n", mtime=0), {}, GZIP),
