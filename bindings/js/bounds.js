@@ -23,7 +23,7 @@ export function boundsOf(type, given) {
   if (given.min === undefined && given.max === undefined) return undefined;
   const [least, greatest] = ofTable(ENDS, "type", type);
   const { min = least, max = greatest } = { min: boundOf("min", given.min), max: boundOf("max", given.max) };
-  if (given.min > given.max) {
+  if (min > max) {
     throw new RangeError(`min has to be at most max, and ${described(min)} is more than ${described(max)}`);
   }
   return { min: min < least ? least : min, max: max > greatest ? greatest : max };

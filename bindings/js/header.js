@@ -77,11 +77,12 @@ function listed(names) {
   return names.slice(0, LISTED).map(described).join(", ") + rest;
 }
 
-/** A hint for the error: the last name may have the return of its line, or if the header has one column, the separator
- * may be another one. */
-function hintOf(names, name, { separator, widths, has_returns, allows_returns }) {
+/** A hint for the error: the last name may have the return of its line, names may have quotes, or if the header has one
+ * column, the separator may be another one. */
+function hintOf(names, name, { separator, widths, has_returns, allows_returns, has_quotes }) {
   const hasNone = !has_returns && !allows_returns;
   if (hasNone && names.at(-1) === `${name}\r`) return "; allows_returns may have to be true";
+  if (!has_quotes && names.some((it) => it.startsWith('"'))) return "; has_quotes may have to be true";
   const isOther = (it) => names[0].includes(it) && it.charCodeAt(0) !== separator;
   const other = names.length === 1 && widths.length === 0 ? SEPARATORS.find(isOther) : undefined;
   return other === undefined ? "" : `; separator may have to be ${described(other)}`;

@@ -2,9 +2,9 @@
 
     python3 service.py FILE
 
-A FILE whose name ends in `.json` is an object of JSON, and any other a configuration with a section
-`service`. A number may stand within quotes there. Each wrong one is reported by its name, and the
-status is then 1.
+A FILE whose name ends in `.json` is an object of JSON, where a number may stand within quotes. Any
+other is a configuration with a section `service`. Each wrong number is reported by its name, and
+the status is then 1.
 """
 
 import configparser

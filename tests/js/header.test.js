@@ -71,6 +71,8 @@ test("names that are missing or stand twice", () => {
   assert.equal(answerOf("id cents\n", { cents: "u8" }), 'HeaderError: no column "cents": the header has "id cents"');
   assert.equal(answerOf("id,cents\r\n", { cents: "u8" }),
     'HeaderError: no column "cents": the header has "id", "cents\\r"; allows_returns may have to be true');
+  assert.equal(answerOf('id,"cents"\r\n', { cents: "u8" }),
+    'HeaderError: no column "cents": the header has "id", "\\"cents\\"\\r"; has_quotes may have to be true');
   assert.equal(answerOf("id,cents\r\n", { cent: "u8" }), 'HeaderError: no column "cent": the header has "id", "cents\\r"');
   const many = Array.from({ length: 1000 }, (_, index) => index).join();
   assert.match(answerOf(many, { x: "u8" }), /^HeaderError: no column "x": the header has "0", .*, "39" and 960 more$/);

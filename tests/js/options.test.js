@@ -79,6 +79,10 @@ test("bounds, and what is said of others", () => {
     const crossed = { name: "RangeError", message: `min has to be at most max, and ${more}` };
     for (const text of ["5", "x", ""]) assert.throws(() => parse(text, "u8", { min, max }), crossed);
   }
+  const none = (bound, more) =>
+    assert.throws(() => parse("5", "u8", bound), { name: "RangeError", message: `min has to be at most max, and ${more}` });
+  none({ min: 256 }, "256 is more than 255n");
+  none({ max: -1 }, "0n is more than -1");
   refuses(() => parse("1", "u7", { min: 1 }), /^type has to be one of u8, .*, and not "u7"$/);
 });
 

@@ -156,9 +156,10 @@ static PyMethodDef METHODS[] = {
          "Return the number that the whole text stands for.\n\n"
          "The text is a str, read as UTF-8, or an object of contiguous bytes. ParseError says\n"
          "why it isn't a number of the type, or that it is less than `min` or greater than `max`;\n"
-         "FormatError says which rule the format breaks. A `min` greater than `max` is another\n"
-         "ValueError. With a Fixed as the type, the number is a fixed-point number, in units of\n"
-         "its last place."),
+         "FormatError says which rule the format breaks. A bound that the type lacks counts as\n"
+         "the type's end. Another ValueError says that `min` is greater than `max`, also where\n"
+         "one of them is the type's end. With a Fixed as the type, the number is a fixed-point\n"
+         "number, in units of its last place, and so are the bounds."),
     CALL(parse_front,
          "parse_front(text, type=\"i64\", format=None)\n--\n\n"
          "Return the number at the beginning of the text, and its length in bytes. A Fixed may\n"

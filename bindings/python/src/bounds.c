@@ -18,6 +18,19 @@ static PyObject *bound_of(const char *name, PyObject *given)
     return bound;
 }
 
+/* Raises ValueError if no number is within two bounds. Nonzero with an exception, of whichever type. */
+static int ask_order(PyObject *least, PyObject *most)
+{
+    int crossed = PyObject_RichCompareBool(most, least, Py_LT);
+    PyObject *from = crossed > 0 ? PyObject_Str(least) : NULL; /* (or it has too many digits for Python) */
+    PyObject *to = from ? PyObject_Str(most) : NULL;
+    if (to)
+        PyErr_Format(PyExc_ValueError, "min has to be at most max, and %U is more than %U", from, to);
+    Py_XDECREF(to);
+    Py_XDECREF(from);
+    return crossed;
+}
+
 int bounds_of(PyObject *least, PyObject *most, bounds *asked)
 {
     *asked = (bounds){bound_of("min", least), NULL};
@@ -26,14 +39,7 @@ int bounds_of(PyObject *least, PyObject *most, bounds *asked)
         return -1;
     if (asked->least == Py_None || asked->most == Py_None)
         return 0;
-    int crossed = PyObject_RichCompareBool(asked->most, asked->least, Py_LT);
-    PyObject *from = crossed > 0 ? PyObject_Str(asked->least) : NULL; /* (or it has too many digits for Python) */
-    PyObject *to = from ? PyObject_Str(asked->most) : NULL;
-    if (to)
-        PyErr_Format(PyExc_ValueError, "min has to be at most max, and %U is more than %U", from, to);
-    Py_XDECREF(to);
-    Py_XDECREF(from);
-    return crossed ? -1 : 0;
+    return ask_order(asked->least, asked->most) ? -1 : 0;
 }
 
 void let_go_bounds(bounds *asked)
@@ -141,7 +147,7 @@ static void raise_out_of_bounds(const core_state *state, const borrowed_text *te
 {
     PyObject *least = bound_within(written->type, asked->least, 0), *message = NULL;
     PyObject *most = least ? bound_within(written->type, asked->most, 1) : NULL;
-    if (most)
+    if (most && ask_order(least, most) == 0) /* (a bound that the type lacks may leave no number) */
         message = message_of(text, written, least, most);
     if (message)
         raise_bounds(state, message, least, most);

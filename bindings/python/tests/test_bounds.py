@@ -109,6 +109,15 @@ class Bounds(unittest.TestCase):
                 parse("1", "u8", **given)
         with self.assertRaisesRegex(ValueError, "min has to be at most max, and 5 is more than 3"):
             parse("4", "u8", min=5, max=3)
+        for given, told in (
+            ({"min": 1024}, "1024 is more than 255"),
+            ({"max": -1}, "0 is more than -1"),
+            ({"min": 256, "max": 300}, "256 is more than 255"),
+        ):
+            with self.assertRaises(ValueError) as caught:
+                parse("80", "u8", **given)
+            self.assertIs(type(caught.exception), ValueError)
+            self.assertEqual(str(caught.exception), f"min has to be at most max, and {told}")
         for given in {"min": 10**5000, "max": 0}, {"min": 10**5000}:  # (which Python doesn't write)
             with self.assertRaisesRegex(ValueError, "limit"):
                 parse("4", "u8", **given)
@@ -129,7 +138,7 @@ class Bounds(unittest.TestCase):
         for given in [(text, "u128"), ("7", "u8"), ("9" * 50, "u8"), ("x", "u8")] * 100:
             try:
                 parse(*given, min=least, max=most)
-            except ParseError:
+            except ValueError:
                 pass
         del given
         self.assertEqual([sys.getrefcount(it) for it in (least, most, text)], before)

@@ -12,8 +12,8 @@ import unittest
 from array import array
 from unittest import mock
 
-from jadvolni import (Column, Format, FormatError, ParseError, Sparse, iter_table, parse_table,
-                      read_table)
+from jadvolni import (Column, Format, FormatError, ParseError, Sparse, Text, iter_table,
+                      parse_table, read_table)
 
 LEDGER = {"day": "u16", "what": None, "cents": "i64"}
 TEXT = b"1;rent;-80000\r\n365;;7\r\n"
@@ -230,6 +230,13 @@ class Tables(unittest.TestCase):
         for columns in ({"a": "u128"}, {"a": "u7"}, {"a": "f64"}):
             self.assertRaises(ValueError, parse_table, b"1", columns)
         self.assertRaises(TypeError, parse_table, b"1", {"a": 7})
+        kinds = " Its type may also be jadvolni.Text() or a jadvolni.Fixed."
+        for wrong, note in ((Text, kinds), ("text", kinds), (7, kinds),
+                            (Column(Text(), Format()), "")):
+            for more in {}, {"out": {"a": bytearray(2), "b": bytearray(2)}}:
+                with self.assertRaises((TypeError, ValueError)) as caught:
+                    parse_table(b"1,2", {"a": "u8", "b": wrong}, **more)
+                self.assertEqual(caught.exception.__notes__, [f"The column is 'b'.{note}"])
         self.assertRaises(TypeError, parse_table, 7, {"a": "u8"})
         self.assertRaises(TypeError, parse_table, b"1", {"a": ("u8", None)})
         self.assertRaises(TypeError, parse_table, b"1", {"a": Column("u8", "hex")})

@@ -175,8 +175,11 @@ def _hint(names: Sequence[str], missing: Sequence[str], how: How) -> str:
     """What a message says of why a header may lack names."""
     if hint := hint_at(names[0].encode("utf-8", "surrogateescape")):
         return hint
+    if not how.has_quotes and any(name.startswith('"') for name in names):
+        return "; has_quotes may have to be True"
     has_none = not how.has_returns and not how.allows_returns
-    if has_none and names[-1] in [f"{name}\r" for name in missing]:
+    # (a return after a quote leaves the quotes in the name)
+    if has_none and names[-1].endswith("\r") and names[-1][:-1].strip('"') in missing:
         return "; allows_returns may have to be True"
     if not how.allows_blanks and {name.strip(" \t") for name in names}.issuperset(missing):
         return "; allows_blanks may have to be True"

@@ -66,6 +66,20 @@ def ask_type(name: str, value: object, kind: Any, wanted: str) -> None:
         raise TypeError(f"{name} has to be {wanted}, and not {type(value).__name__}")
 
 
+def _ask_column(name: str, column: Column) -> None:
+    """Raises TypeError or ValueError, and notes the column, unless its type is one of a table."""
+    is_text = isinstance(column.type, _texts.Text)
+    try:
+        if not is_text:
+            _array_code(column.type)
+        elif column.format is not None:
+            raise TypeError("format has to be None where the type is a Text")
+    except (TypeError, ValueError) as error:
+        others = "" if is_text else " Its type may also be jadvolni.Text() or a jadvolni.Fixed."
+        error.add_note(f"The column is {name!r}.{others}")
+        raise
+
+
 def pair_of(values: Any) -> tuple[Any, Any]:
     """The numbers of a column, and its bits or None."""
     numbers, bits = values[:2] if isinstance(values, tuple) else (values, None)
@@ -93,9 +107,8 @@ class Reader:
         ask_type("columns", columns, Mapping, "a dict")
         self.read = {name: it if isinstance(it, Column) else Column(it)
                      for name, it in columns.items() if it is not None}
-        for column in self.read.values():
-            if isinstance(column.type, _texts.Text) and column.format is not None:
-                raise TypeError("format has to be None where the type is a Text")
+        for name, column in self.read.items():
+            _ask_column(name, column)
         if names is not None:
             ask_names(columns, names, how)
         # The cells of a row, each with its name; a name that isn't read may come twice.

@@ -146,7 +146,8 @@ def parse_table(
     allows_returns: the line feed that ends a row may follow a carriage return, so rows may end
     either way. Any other carriage return belongs to its cell, so none alone ends a row.
     has_quotes: a cell may be enclosed in '"', and may then contain separators and line feeds. Its
-    width, if it has one, includes the quotes.
+    width, if it has one, includes the quotes. Don't combine this with a quote as the separator:
+    after an odd number of them in a row a line feed doesn't end it.
     allows_blanks: spaces and tabs may surround a number, or `missing` in its place: within its
     quotes if it has them, and not in a Text.
     skips_empty_rows: a row without a byte before its end doesn't count as a row, and is no missing
@@ -154,7 +155,8 @@ def parse_table(
     missing: what stands for a missing number or text, by default an empty cell, and "" too if the
     table has quotes. It is all that the cell holds, and counts only in a Column with may_miss. A
     column of numbers then is a Sparse.
-    widths: the width of each cell in bytes. Cells then have no separator.
+    widths: the width of each cell in bytes. Cells then have no separator. A line that ends before a
+    cell is complete, as one without its last blanks, has too few cells.
     is_records: rows have as many bytes as the widths together, at least one, and no line feed: one
     at the end of the text belongs to a further row.
     out: a dict of writable arrays with room for all rows, one for each column of numbers, and a
