@@ -35,6 +35,7 @@ mod misplaced;
 mod next_part;
 mod number_cells;
 mod numbers;
+mod open_rows;
 mod parsed;
 mod parts;
 mod pass;

@@ -10,7 +10,8 @@ use crate::cells::column_count;
 use crate::codes::{CODED, UNKNOWN, put_codes};
 use crate::dialect::Dialect;
 use crate::next_part::Left;
-use crate::pass::{behind_empty_rows, read_marked_row};
+use crate::open_rows::{last_at_once, read_marked_rows};
+use crate::pass::behind_empty_rows;
 use crate::targets::TableColumn;
 use lexical_parse_integer::Options;
 
@@ -38,27 +39,18 @@ fn read_coded_rows<C: TableColumn, const HAS_QUOTES: bool, const HAS_CALLS: bool
     let columns = column_count(dialect);
     let mut left = behind_empty_rows(Left { text, marks: 0 }, Some(separator), dialect);
     let mut count = 0;
-    let mut wrong = None;
     while count < rows && !left.text.is_empty() {
-        let behind = read_marked_row::<C, HAS_QUOTES, HAS_CALLS, false>(
-            text.len(),
-            left,
-            count,
-            columns,
-            separator,
-            codes,
-            dialect,
-            options,
-            targets,
+        let last = last_at_once(count, rows, dialect);
+        let mut wrong = None;
+        let read = read_marked_rows::<C, HAS_QUOTES, HAS_CALLS, false>(
+            text, left, count, last, columns, separator, codes, dialect, options, targets,
             &mut wrong,
         );
-        if !behind.is_right {
-            if let Some(error) = wrong {
-                return Err(error);
-            }
+        if let Some(error) = wrong {
+            return Err(error);
         }
-        left = behind_empty_rows(behind.left, Some(separator), dialect);
-        count += 1;
+        left = behind_empty_rows(read.behind, Some(separator), dialect);
+        count = read.index + 1;
     }
     Ok(Table {
         rows: count,
