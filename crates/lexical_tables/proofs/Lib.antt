@@ -18,7 +18,6 @@ pub mod Looks
 pub mod MarkedCells
 pub mod NearCells
 pub mod NumbersPut
-pub mod OpenRows
 pub mod OutsideInParts
 pub mod OutsideSteps
 pub mod Parities
@@ -33,7 +32,6 @@ pub mod RecordSteps
 pub mod RowCells
 pub mod RowSteps
 pub mod RowsInParts
-pub mod RowsRead
 pub mod SeenBytes
 pub mod numerals
 pub mod skipped

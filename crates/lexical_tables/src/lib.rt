@@ -35,7 +35,6 @@ mod misplaced;
 mod next_part;
 mod number_cells;
 mod numbers;
-mod open_rows;
 mod parsed;
 mod parts;
 mod pass;

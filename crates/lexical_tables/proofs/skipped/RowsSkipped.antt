@@ -7,7 +7,7 @@ use Rattle.lexical_tables.specs.declared.answers.TableError.{TableError}
 use Rattle.lexical_tables.specs.declared.bad_rows.BadRow.{BadRow}
 use Rattle.lexical_tables.specs.declared.dialect.Dialect.{Dialect}
 use Rattle.lexical_tables.proofs.RowSteps.{HasRowsOf, behind_shorter, skip_starts}
-use Rattle.lexical_tables.proofs.RowsRead.{one_if, rows_reach}
+use Rattle.lexical_tables.proofs.ColumnTables.{one_if, rows_reach}
 use Rattle.lexical_tables.proofs.skipped.RowPlaces.{IsBehindRow, row_behind}
 use Rattle.lexical_tables.proofs.skipped.Skipping.{IsSkipping, bad_goes, right_goes, skipping_fits}
 

@@ -2,7 +2,7 @@ use Rattle.std.proofs.Common.{◌≡◌, ◌+◌, ◌≤◌, inl, inr, drop, len
 use Rattle.std.proofs.lemmas.Bool.Decides.{nat_tests}
 use Rattle.lexical_tables.proofs.ColumnTables.{table_ends}
 use Rattle.lexical_tables.proofs.PutSteps.{use_less}
-use Rattle.lexical_tables.proofs.RowsRead.{codes_stay, table_reaches, table_stops}
+use Rattle.lexical_tables.proofs.ColumnTables.{codes_stay, table_reaches, table_stops}
 use Rattle.lexical_tables.proofs.marked_rows.read_coded_rows.Goals.{then-loop-count-test+else-not-is_empty, else-loop-count-test}
 use Rattle.lexical_tables.proofs.marked_rows.read_coded_rows.Goals as goal
 

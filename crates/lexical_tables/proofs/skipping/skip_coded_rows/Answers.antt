@@ -2,7 +2,7 @@ use Rattle.std.proofs.Common.{◌≡◌, ◌+◌, ◌-◌, ◌<◌, ◌≤◌, a
 use Rattle.std.proofs.lemmas.Bool.Decides.{nat_tests}
 use Rattle.lexical_tables.proofs.PassSteps.{no_ends_if}
 use Rattle.lexical_tables.proofs.PutSteps.{use_less}
-use Rattle.lexical_tables.proofs.RowsRead.{codes_stay}
+use Rattle.lexical_tables.proofs.ColumnTables.{codes_stay}
 use Rattle.lexical_tables.proofs.skipped.RowPlaces.{rows_start}
 use Rattle.lexical_tables.proofs.skipped.RowsSkipped.{bad_fits, bad_reaches, rest_first, skipping_reaches}
 use Rattle.lexical_tables.proofs.skipped.Skipping.{skipping_ends, skipping_starts}

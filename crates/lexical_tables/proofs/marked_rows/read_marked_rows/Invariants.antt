@@ -3,7 +3,7 @@ use Rattle.lexical_tables.specs.ByColumn.{AreUsable}
 use Rattle.lexical_tables.specs.Codes.{AreCodes}
 use Rattle.lexical_tables.specs.Ends.{AreEnds}
 use Rattle.lexical_tables.specs.RowSoFar.{GoesOn, IsOnRow}
-use Rattle.lexical_tables.proofs.open_rows.read_marked_rows.Given as goal
+use Rattle.lexical_tables.proofs.marked_rows.read_marked_rows.Given as goal
 
 -- rows were read, and cells of the next one
 abbrev pub invariant-loop-row : goal.invariant-loop-row

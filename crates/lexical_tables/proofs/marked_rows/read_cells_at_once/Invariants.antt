@@ -4,7 +4,7 @@ use Rattle.lexical_tables.specs.Codes.{AreCodes}
 use Rattle.lexical_tables.specs.Ends.{AreEnds}
 use Rattle.lexical_tables.specs.RowSoFar.{GoesOn, IsOnRow}
 use Rattle.lexical_tables.specs.Targets.{TargetView}
-use Rattle.lexical_tables.proofs.open_rows.read_cells_at_once.Given as goal
+use Rattle.lexical_tables.proofs.marked_rows.read_cells_at_once.Given as goal
 
 -- rows were read, and cells of the next one
 abbrev pub invariant-loop-row : goal.invariant-loop-row

@@ -8,11 +8,11 @@ use Rattle.lexical_tables.specs.Ends.{AreEnds}
 use Rattle.lexical_tables.specs.RowSoFar.{GoesOn, IsOnRow, IsPart, count_in}
 use Rattle.lexical_tables.specs.Targets.{TargetView}
 use Rattle.lexical_tables.proofs.CodeSteps.{codes_put}
-use Rattle.lexical_tables.proofs.OpenRows.{cell_goes, next_row, row_goes}
+use Rattle.lexical_tables.proofs.ColumnSteps.{next_cell_goes, next_row, last_cell_goes}
 use Rattle.lexical_tables.proofs.PassSteps.{row_begins}
 use Rattle.lexical_tables.proofs.PutSteps.{use_less, use_put}
 use Rattle.lexical_tables.proofs.RowSteps.{tail_of_tail}
-use Rattle.lexical_tables.proofs.open_rows.read_cells_at_once.Goals as goal
+use Rattle.lexical_tables.proofs.marked_rows.read_cells_at_once.Goals as goal
 
 pub read_coded_cell-requires-clause-usable : goal.read_coded_cell-requires-clause-usable
 read_coded_cell-requires-clause-usable g c =
@@ -34,7 +34,7 @@ returns-then-row-last-clause-done g c = λ is_done first old from on.
     take_all (length text - row.start) open_text (omega (arith, length-drop row.start text)) in
     let is = subst (λ t. IsPart d c.args.separator t left part.result) whole part.ensures.part in
     let more : row.column < count_in d = grind (arith, nat_tests) in
-    row_goes d c.args.separator (length text) first old from before row.index open_text row.column left
+    last_cell_goes d c.args.separator (length text) first old from before row.index open_text row.column left
     (c.loop-row.invariant.4 first old from on) part.result is c.loop-row.invariant.0.within
     (omega (arith, length-drop row.start text)) more now (found.fault refl) (found.targets refl) c.if-part.true
     (c.if-ends_wrong.ensures.count refl c.if-part.true ∙ c.requires.columns)
@@ -112,7 +112,7 @@ loop-row-preserved-then-part g c =
       λ first old from on.
           subst (λ t. GoesOn d (length text) first old from now (row.index + 1) t 0 behind) same
           (next_row d s (length text) first old from now row.index open_text
-          (row_goes d s (length text) first old from before row.index open_text row.column left
+          (last_cell_goes d s (length text) first old from before row.index open_text row.column left
           (c.loop-row.invariant.4 first old from on) part.result is inside (omega (arith, size)) more now (found.fault refl)
           (found.targets refl) c.if-part.true (c.if-ends_wrong.ensures.count refl c.if-part.true ∙ c.requires.columns)
           (sym (ap (λ r. r.lacks_return) (is.row c.if-part.true (length text - length open_text)))
@@ -152,7 +152,7 @@ loop-row-preserved g c =
       subst (AreUsable (c.args.last + 1)) (sym (found.targets refl))
           (use_put (c.args.last + 1) row.index row.column _ before c.loop-row.invariant.3),
       λ first old from on.
-          cell_goes d s (length text) first old from before row.index open_text row.column left
+          next_cell_goes d s (length text) first old from before row.index open_text row.column left
           (c.loop-row.invariant.4 first old from on) part.result is c.loop-row.invariant.0.within
           (omega (arith, length-drop row.start text)) more now (found.fault refl) (found.targets refl) c.if-part.false
           c.behind_part.result.text.now back,

@@ -4,10 +4,10 @@ use Rattle.lexical_tables.specs.ByColumn.{AreUsable}
 use Rattle.lexical_tables.specs.Codes.{AreCodes}
 use Rattle.lexical_tables.specs.Ends.{AreEnds}
 use Rattle.lexical_tables.specs.RowSoFar.{GoesOn, IsOnRow}
-use Rattle.lexical_tables.proofs.OpenRows.{cells_read, goes_from, row_ended}
+use Rattle.lexical_tables.proofs.ColumnSteps.{cells_read, goes_from, row_ended}
 use Rattle.lexical_tables.proofs.PassSteps.{row_begins}
 use Rattle.lexical_tables.proofs.PutSteps.{use_less}
-use Rattle.lexical_tables.proofs.open_rows.read_marked_rows.Goals as goal
+use Rattle.lexical_tables.proofs.marked_rows.read_marked_rows.Goals as goal
 
 pub loop-row-init : goal.loop-row-init
 loop-row-init g c =
