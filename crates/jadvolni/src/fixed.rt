@@ -13,7 +13,10 @@ use crate::calls::UNKNOWN;
 use crate::format::FormatFields;
 use crate::outcome::{Outcome, UNKNOWN_FIELD, status_of};
 use crate::slot::Slot;
-use lexical_fixed::quick::{complete_if_not_short, front_at_once, partial_if_left, value_if_short};
+use lexical_fixed::quick::{
+    complete_if_long, complete_if_not_short, front_at_once, partial_if_left, value_if_fewer,
+    value_if_short,
+};
 use lexical_fixed::{FixedFormat, FixedFormatError};
 use lexical_parse_integer::NumberFormat;
 use lexical_parse_integer::format::STANDARD;
@@ -215,16 +218,46 @@ fn fixed_any<T: Integer, S: Slot<T>>(text: &[u8], fields: &FixedFields, value: &
 
 // The whole text, under a plain description, for a text that isn't short.
 #[inline(never)]
-fn fixed_plain<T: Integer, S: Slot<T>>(text: &[u8], fields: &FixedFields, value: &mut S) -> Outcome
+fn fixed_long<T: Integer, S: Slot<T>>(text: &[u8], fields: &FixedFields, value: &mut S) -> Outcome
     requires { IsPlainFixed fields.now }
     ensures { effect result (S.number value.new)
         ≡ fixed_call fields.now T.TYPE text.now (S.number value.old) }
 {
     store(
-        complete_if_not_short::<T>(text, &fields.plain()),
+        complete_if_long::<T>(text, &fields.plain()),
         text.len(),
         value,
     )
+}
+
+// The whole text, under a plain description that takes fewer places. It needs no stack, which the longer way needs.
+#[inline(never)]
+fn fixed_fewer<T: Integer, S: Slot<T>>(text: &[u8], fields: &FixedFields, value: &mut S) -> Outcome
+    requires { IsPlainFixed fields.now }
+    ensures { effect result (S.number value.new)
+        ≡ fixed_call fields.now T.TYPE text.now (S.number value.old) }
+{
+    match value_if_fewer::<T>(text, &fields.plain()) {
+        Some(number) => store(Ok(number), text.len(), value),
+        None => fixed_long::<T, S>(text, fields, value),
+    }
+}
+
+// How many bytes a text has at most that may be read with fewer places: a sign, and sixteen digits.
+const MOST_OF_FEWER: usize = 17;
+
+// The whole text, under a plain description, for a text without all places or one that isn't short. Out of line, so that a short
+// text pays for no choice.
+#[inline(never)]
+fn fixed_plain<T: Integer, S: Slot<T>>(text: &[u8], fields: &FixedFields, value: &mut S) -> Outcome
+    requires { IsPlainFixed fields.now }
+    ensures { effect result (S.number value.new)
+        ≡ fixed_call fields.now T.TYPE text.now (S.number value.old) }
+{
+    if fields.takes_fewer != 0 && text.len() <= MOST_OF_FEWER {
+        return fixed_fewer::<T, S>(text, fields, value);
+    }
+    fixed_long::<T, S>(text, fields, value)
 }
 
 /// The whole text, under a description that may be invalid. A short one is read in place where the description is plain.

@@ -7,12 +7,13 @@ ghost use Rattle.lexical_parse_integer.specs.Fronts.{number_in_front};
 ghost use Rattle.lexical_parse_integer.specs.Grammar.{digits_required};
 ghost use Rattle.lexical_fixed.specs.Fraction.{fraction_length, front_end, whole_end};
 ghost use Rattle.lexical_fixed.specs.Grammar.{complete_fixed, front_behind, integer_part, is_negative, partial_fixed, units_behind, whole_behind, whole_fault};
+ghost use Rattle.lexical_fixed.specs.Quick.{IsBare};
 ghost use Rattle.lexical_fixed.specs.Validity.{fixed_fault};
 
 use crate::by_point::complete_by_point;
 use crate::format::FixedFormat;
 use crate::fraction::{digits_behind, fraction, has_point_at, read_digits, read_zeros};
-use crate::parted::whole_at_once;
+use crate::parted::{value_if_bare, whole_at_once};
 use crate::quick::{front_at_once, plain_part, value_if_short};
 use crate::short::is_bare;
 use lexical_parse_integer::parse::ParseInteger;
@@ -238,6 +239,19 @@ pub fn partial_if_left<T: Integer>(text: &[u8], format: &FixedFormat) -> Result<
     }
 }
 
+/// The number that the whole text stands for: best asked after `value_if_short` and `value_if_fewer`.
+#[inline(always)]
+pub fn complete_if_long<T: Integer>(text: &[u8], format: &FixedFormat) -> Result<T>
+    requires valid { IsNone (fixed_fault format.now) }
+    requires bare { IsBare format.now.integer }
+    ensures { view_of T.number result ≡ complete_fixed format.now T.TYPE text.now }
+{
+    match whole_at_once::<T>(text, format) {
+        Some(units) => Ok(units),
+        None => read_whole::<T>(text, format),
+    }
+}
+
 /// The number that the whole text stands for: best asked after `value_if_short`.
 #[inline(always)]
 pub fn complete_if_not_short<T: Integer>(text: &[u8], format: &FixedFormat) -> Result<T>
@@ -247,7 +261,7 @@ pub fn complete_if_not_short<T: Integer>(text: &[u8], format: &FixedFormat) -> R
     if !is_bare(format.integer()) {
         return complete_by_point::<T>(text, format);
     }
-    match whole_at_once::<T>(text, format) {
+    match value_if_bare::<T>(text, format) {
         Some(units) => Ok(units),
         None => read_whole::<T>(text, format),
     }

@@ -9,7 +9,7 @@ ghost use Rattle.lexical_fixed.specs.Validity.{fixed_fault};
 use crate::append::append_digits;
 use crate::format::FixedFormat;
 use crate::fraction::read_zeros;
-use crate::short::{behind_minus, value_of_fewer, value_of_whole};
+use crate::short::{behind_minus, value_if_fewer};
 use lexical_digits::fronts::value_of_digits;
 use lexical_parse_integer::laws::grammar::front_digits;
 use lexical_util::num::Integer;
@@ -73,9 +73,8 @@ fn value_as_written<T: Integer>(digits: &[u8], count: usize, is_negative: bool) 
     append_digits::<T>(whole, &digits[size - count..], is_negative)
 }
 
-/// The number that the whole text stands for. Out of line, so that its callers stay small: it has a reader for each range of
-/// lengths.
-#[inline(never)]
+// The number that the whole text stands for. It has a reader for each range of lengths.
+#[inline(always)]
 pub(crate) fn whole_at_once<T: Integer>(text: &[u8], format: &FixedFormat) -> Option<T>
     requires valid { IsNone (fixed_fault format.now) }
     requires bare { IsBare format.now.integer }
@@ -88,14 +87,6 @@ pub(crate) fn whole_at_once<T: Integer>(text: &[u8], format: &FixedFormat) -> Op
         return None;
     }
     let (is_negative, digits) = behind_minus::<T>(text);
-    if format.takes_fewer() && digits.len() <= 16 {
-        if let Some(units) = value_of_fewer::<T>(digits, format, is_negative) {
-            return Some(units);
-        }
-        if let Some(units) = value_of_whole::<T>(digits, format, is_negative) {
-            return Some(units);
-        }
-    }
     let Some(count) = places_written(digits, format) else {
         return None;
     };
@@ -106,5 +97,19 @@ pub(crate) fn whole_at_once<T: Integer>(text: &[u8], format: &FixedFormat) -> Op
     match read_zeros::<T>(written, zeros, text.len(), is_negative) {
         Ok(units) => Some(units),
         Err(_) => None,
+    }
+}
+
+// The number that the whole text stands for, with all places or fewer. Out of line, so that its callers stay small.
+#[inline(never)]
+pub(crate) fn value_if_bare<T: Integer>(text: &[u8], format: &FixedFormat) -> Option<T>
+    requires valid { IsNone (fixed_fault format.now) }
+    requires bare { IsBare format.now.integer }
+    ensures { IfSome result
+        (λ units. complete_fixed format.now T.TYPE text.now ≡ Ok (T.number units)) }
+{
+    match value_if_fewer::<T>(text, format) {
+        Some(units) => Some(units),
+        None => whole_at_once::<T>(text, format),
     }
 }

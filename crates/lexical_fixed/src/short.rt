@@ -95,8 +95,9 @@ fn value_from_4<T: Integer>(digits: &[u8], place: usize, is_negative: bool) -> O
     }
 }
 
-// The value of the digits before and behind the middle one of three bytes.
-#[inline(always)]
+// The value of the digits before and behind the middle one of three bytes. Not inlined always: it counts as a reader of sixteen
+// digits, and with one more of these `value_if_fewer` would be too large for that.
+#[inline]
 fn value_of_3<T: Integer>(digits: &[u8], is_negative: bool) -> Option<T>
     requires three { length digits.now ≡ 3 }
     requires minus { IsTrue is_negative → IsTrue T.TYPE.is_signed }
@@ -145,11 +146,7 @@ fn value_by_point<T: Integer>(digits: &[u8], place: usize, is_negative: bool) ->
 
 // The number in units of digits with fewer behind the point than there are places, if the description takes that.
 #[inline(always)]
-pub(crate) fn value_of_fewer<T: Integer>(
-    digits: &[u8],
-    format: &FixedFormat,
-    is_negative: bool,
-) -> Option<T>
+fn value_of_fewer<T: Integer>(digits: &[u8], format: &FixedFormat, is_negative: bool) -> Option<T>
     requires bits { 32 ≤ T.TYPE.bits }
     requires minus { IsTrue is_negative → IsTrue T.TYPE.is_signed }
     requires takes { format.now.takes_fewer ≡ true }
@@ -175,11 +172,7 @@ pub(crate) fn value_of_fewer<T: Integer>(
 
 // The number in units of up to sixteen digits without a point, if the description takes that.
 #[inline(always)]
-pub(crate) fn value_of_whole<T: Integer>(
-    digits: &[u8],
-    format: &FixedFormat,
-    is_negative: bool,
-) -> Option<T>
+fn value_of_whole<T: Integer>(digits: &[u8], format: &FixedFormat, is_negative: bool) -> Option<T>
     requires bits { 32 ≤ T.TYPE.bits }
     requires minus { IsTrue is_negative → IsTrue T.TYPE.is_signed }
     requires takes { format.now.takes_fewer ≡ true }
@@ -215,6 +208,27 @@ pub fn value_if_short<T: Integer>(text: &[u8], format: &FixedFormat) -> Option<T
     value_around::<T>(digits, place, is_negative)
 }
 
+/// The number that the whole text stands for, for most texts of up to sixteen bytes, with fewer digits behind the point than there
+/// are places, or without a point, if the description takes that. `None` says nothing of the text.
+#[inline(always)]
+pub fn value_if_fewer<T: Integer>(text: &[u8], format: &FixedFormat) -> Option<T>
+    requires valid { IsNone (fixed_fault format.now) }
+    requires bare { IsBare format.now.integer }
+    ensures { IfSome result
+        (λ units. complete_fixed format.now T.TYPE text.now ≡ Ok (T.number units)) }
+{
+    // The law by which the front has a digit.
+    front_digits();
+    if T::BITS < 32 || !format.takes_fewer() || text.is_empty() {
+        return None;
+    }
+    let (is_negative, digits) = behind_minus::<T>(text);
+    if let Some(units) = value_of_fewer::<T>(digits, format, is_negative) {
+        return Some(units);
+    }
+    value_of_whole::<T>(digits, format, is_negative)
+}
+
 /// The number that the whole text stands for, for most texts of two to fifteen digits around a point, with all places, which are
 /// seven at most; or with fewer, or without a point, if the description takes that. `None` says nothing of the text.
 #[inline(always)]
@@ -232,11 +246,5 @@ pub fn value_at_once<T: Integer>(text: &[u8], format: &FixedFormat) -> Option<T>
     if let Some(place) = point_before(digits, format, 3, format.places()) {
         return value_by_point::<T>(digits, place, is_negative);
     }
-    if T::BITS < 32 || !format.takes_fewer() {
-        return None;
-    }
-    if let Some(units) = value_of_fewer::<T>(digits, format, is_negative) {
-        return Some(units);
-    }
-    value_of_whole::<T>(digits, format, is_negative)
+    value_if_fewer::<T>(text, format)
 }

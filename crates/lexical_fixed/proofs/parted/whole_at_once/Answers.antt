@@ -1,6 +1,5 @@
 use Rattle.std.proofs.Common.{◌-◌, ◌∙◌, ap, length}
 use Rattle.lexical_fixed.specs.Fraction.{read_zeros}
-use Rattle.lexical_fixed.proofs.ShortNumbers.{filled_read, whole_read}
 use Rattle.lexical_fixed.proofs.PartedTexts.{parted_read, summed_sign}
 use Rattle.lexical_fixed.proofs.parted.whole_at_once.Goals as goal
 
@@ -9,19 +8,7 @@ read_zeros-requires g c = record { sign = summed_sign _ _ _ _ _ c.in-Some-value_
 
 pub returns-in-Ok : goal.returns-in-Ok
 returns-in-Ok g c =
-    parted_read c.args.format.now g.T.Integer.TYPE _ c.args.text.now _ c.in-Some-places_written.count _ (g.T.Integer.number c.in-Ok.units) c.requires.valid
+    parted_read c.args.format.now g.T.Integer.TYPE _ c.args.text.now _ c.in-Some.count _ (g.T.Integer.number c.in-Ok.units) c.requires.valid
     c.requires.bare (c.front_digits.ensures c.args.format.now.integer g.T.Integer.TYPE c.args.text.now)
-    c.behind_minus-is_negative.ensures.behind c.behind_minus-is_negative.ensures.minus c.in-Some-places_written.ensures c.in-Some-value_as_written.ensures
-    (c.in-Ok.ensures ∙ ap (λ n. read_zeros g.T.Integer.TYPE c.behind_minus-is_negative.result.0 (g.T.Integer.number c.in-Some-value_as_written.written) (n - c.in-Some-places_written.count) (length c.args.text.now)) c.places.ensures)
-
-pub returns-in-Some : goal.returns-in-Some
-returns-in-Some g c =
-    filled_read c.args.format.now g.T.Integer.TYPE _ c.args.text.now _ (g.T.Integer.number c.in-Some.units) c.requires.valid
-    c.requires.bare (c.front_digits.ensures c.args.format.now.integer g.T.Integer.TYPE c.args.text.now)
-    c.behind_minus-is_negative.ensures.behind c.behind_minus-is_negative.ensures.minus c.in-Some.ensures
-
-pub returns-in-Some-value_of_whole : goal.returns-in-Some-value_of_whole
-returns-in-Some-value_of_whole g c =
-    whole_read c.args.format.now g.T.Integer.TYPE _ c.args.text.now _ (g.T.Integer.number c.in-Some-value_of_whole.units) c.requires.valid
-    c.requires.bare (c.front_digits.ensures c.args.format.now.integer g.T.Integer.TYPE c.args.text.now)
-    c.behind_minus-is_negative.ensures.behind c.behind_minus-is_negative.ensures.minus c.in-Some-value_of_whole.ensures
+    c.behind_minus-is_negative.ensures.behind c.behind_minus-is_negative.ensures.minus c.in-Some.ensures c.in-Some-value_as_written.ensures
+    (c.in-Ok.ensures ∙ ap (λ n. read_zeros g.T.Integer.TYPE c.behind_minus-is_negative.result.0 (g.T.Integer.number c.in-Some-value_as_written.written) (n - c.in-Some.count) (length c.args.text.now)) c.places.ensures)
