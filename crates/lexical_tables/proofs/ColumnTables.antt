@@ -1,5 +1,5 @@
 -- A table whose columns go into targets, one row after another.
-use Rattle.std.proofs.Common.{◌≡◌, ◌∙◌, ℕ, suc, ◌+◌, ◌-◌, ◌<◌, ◌≤◌, List, [], ◌∷◌, length, take, drop, cond, Result, Option, Some, None, Ok, Err, refl, ap, ap₂, sym, subst, arith, inl, inr, ◌⊎◌}
+use Rattle.std.proofs.Common.{◌≡◌, ◌∙◌, ℕ, suc, ◌+◌, ◌-◌, ◌<◌, ◌≤◌, List, [], ◌∷◌, length, take, drop, cond, Result, Option, Some, None, Ok, Err, refl, ap, ap₂, sym, subst, arith, inl, inr, ◌⊎◌, zero, Bool, false, true}
 use Rattle.std.specs.Prelude.{IfOk, is_none}
 use Rattle.std.proofs.lemmas.List.{drop_all, drop-drop, take_all}
 use Rattle.lexical_tables.specs.ByColumn.{AreUsable, StopsAt, columns_answer, columns_put, first_fault, first_of, kinds_of, put_row, put_rows, row_fault, row_values, unless, values_to_fault}
@@ -10,7 +10,10 @@ use Rattle.lexical_tables.specs.declared.answers.TableError.{TableError}
 use Rattle.lexical_tables.specs.declared.dialect.Dialect.{Dialect}
 use Rattle.lexical_tables.proofs.LineSteps.{none_of}
 use Rattle.lexical_tables.proofs.PutSteps.{kinds_put_row, use_less, use_put_row}
-use Rattle.lexical_tables.proofs.RowSteps.{HasRowsOf, next_row, no_rows, piece_goes, start_of_rows, tail_of_tail}
+use Rattle.lexical_tables.proofs.RowSteps.{HasRowsOf, next_row, no_rows, piece_goes, start_of_rows, tail_of_tail, behind_shorter, skip_ends, skip_starts}
+use Rattle.lexical_tables.specs.Codes.{AreCodes}
+use Rattle.lexical_tables.specs.RowSoFar.{AreRowsRead, GoesToEnd, IsRowRead, row_at}
+use Rattle.lexical_tables.proofs.CodeSteps.{codes_put_row}
 
 -- the rows of what is left of a text
 abbrev rows_left : Dialect → List ℕ → List ℕ → List RowView
@@ -200,3 +203,87 @@ module _ (d : Dialect) (room : ℕ) (text : List ℕ) (old now : List (Option Ta
               ∙ ap (λ l. put_rows count (values_to_fault (kinds_of old) d count l) now) (sym next_rows) ∙ reading.values;
           goes_on = tt;
         }
+
+-- ---- a table of which rows were read one behind another, up to a row that may be wrong
+
+-- what holds of a table before some rows, and goes on holding behind each, holds behind all of them
+pub rows_reach : (d : Dialect) (end room : ℕ) (P : List (Option TargetView) → ℕ → List ℕ → Type 0)
+    → ((before : List (Option TargetView)) (index : ℕ) (rest : List ℕ) (after : List (Option TargetView)) (behind : List ℕ)
+    → P before index rest → index < room → IsRowRead d end index before rest after behind → FirstCounts d behind
+    → P after (index + 1) behind)
+    → (first : ℕ) (old : List (Option TargetView)) (from : List ℕ) → P old first from
+    → (count : ℕ) (now : List (Option TargetView)) (rest : List ℕ) → AreRowsRead d end first old from count now rest
+    → (d.skips_empty_rows ≡ false) ⊎ (count ≡ 0) → first + count ≤ room → P now (first + count) rest
+rows_reach d end room P step first old from begun zero now rest rows apart low =
+    let none : first ≡ first + 0 = omega arith in
+    subst (λ n. P now n rest) none (subst (λ l. P now first l) (sym rows.1) (subst (λ t. P t first from) (sym rows.0) begun))
+rows_reach d end room P step first old from begun (suc count) now rest rows apart low =
+    let counted : d.skips_empty_rows ≡ false =
+    elim apart [
+      | inl is ↦ is
+      | inr none ↦ absurd (omega (arith, none))
+    ] in
+    let one : first + count + 1 ≡ first + suc count = omega arith in
+    subst (λ n. P now n rest) one
+    (step rows.before (first + count) rows.rest now rest
+    (rows_reach d end room P step first old from begun count rows.before rows.rest rows.earlier (inl counted)
+    (omega (arith, low)))
+    (omega (arith, low)) rows.row (skip_ends d rest (inl counted)))
+
+-- where empty rows are skipped, one row is read at once
+pub one_if : (skips : Bool) (count : ℕ) → (skips ≡ true → count ≡ 0) → (skips ≡ false) ⊎ (count ≡ 0)
+one_if true count one = inr (one refl)
+one_if false count one = inl refl
+
+codes_reach : (d : Dialect) (codes : List ℕ) (end first : ℕ) (old : List (Option TargetView)) (from : List ℕ)
+    → AreCodes d codes old → (count : ℕ) (now : List (Option TargetView)) (rest : List ℕ)
+    → AreRowsRead d end first old from count now rest → AreCodes d codes now
+codes_reach d codes end first old from are zero now rest rows = subst (AreCodes d codes) (sym rows.0) are
+codes_reach d codes end first old from are (suc count) now rest rows =
+    subst (AreCodes d codes) (sym rows.row.values)
+    (codes_put_row d codes (first + count) _ rows.before
+    (codes_reach d codes end first old from are count rows.before rows.rest rows.earlier))
+
+-- the codes of columns don't change
+pub codes_stay : (d : Dialect) (codes : List ℕ) (end first : ℕ) (old : List (Option TargetView)) (from : List ℕ)
+    (now : List (Option TargetView)) (index : ℕ) (rest : List ℕ) (answer : Option TableError)
+    → GoesToEnd d end first old from now index rest answer → AreCodes d codes old → AreCodes d codes now
+codes_stay d codes end first old from now index rest answer on are =
+    subst (AreCodes d codes) (sym on.row.targets_are)
+    (codes_put_row d codes index _ on.before (codes_reach d codes end first old from are on.count on.before rest on.rows))
+
+module _ (d : Dialect) (room : ℕ) (text : List ℕ) (old now : List (Option TargetView)) (count : ℕ) (from : List ℕ)
+    (reading : IsTablePut d room text old now count from) (new : List (Option TargetView)) (index : ℕ) (rest : List ℕ)
+    (answer : Option TableError) (on : GoesToEnd d (length text) count now from new index rest answer)
+    (one : d.skips_empty_rows ≡ true → index ≤ count) (more : index < room) (some : 0 < length rest) where
+  step : (before : List (Option TargetView)) (at : ℕ) (here : List ℕ) (after : List (Option TargetView)) (behind : List ℕ)
+      → IsTablePut d room text old before at here → at < room → IsRowRead d (length text) at before here after behind
+      → FirstCounts d behind → IsTablePut d room text old after (at + 1) behind
+  step before at here after behind put low row first =
+      table_goes d room text old before at here put (row_at d (length text) here) behind behind low row.some row.line
+      (omega (arith, ap length row.line, behind_shorter d.layout d.has_quotes here row.some)) refl (skip_starts d behind)
+      after row.values row.right first
+
+  -- before the last of the rows
+  reached : IsTablePut d room text old on.before index rest
+  reached =
+      subst (λ n. IsTablePut d room text old on.before n rest) (sym on.number)
+      (rows_reach d (length text) room (λ t n r. IsTablePut d room text old t n r) step count now from reading on.count on.before
+      rest on.rows (one_if d.skips_empty_rows on.count (λ skips. omega (arith, one skips, on.number)))
+      (omega (arith, more, on.number)))
+
+  -- behind it, and the empty rows there
+  pub table_reaches : answer ≡ None → (behind left : List ℕ) → behind ≡ behind_piece d.layout d.has_quotes rest
+      → HasRowsOf d behind left → FirstCounts d left → IsTablePut d room text old new (index + 1) left
+  table_reaches none behind left back skipped first =
+      table_goes d room text old on.before index rest reached (row_at d (length text) rest) behind left more some back
+      (omega (arith, ap length back, behind_shorter d.layout d.has_quotes rest some)) refl skipped new on.row.targets_are
+      (sym on.row.fault_is ∙ none) first
+
+  -- it is wrong
+  pub table_stops : (error : TableError) → answer ≡ Some error → IsTableDone d room text old new (Err error)
+  table_stops error is =
+      let behind = behind_piece d.layout d.has_quotes rest in
+      table_fault d room text old on.before index rest reached (row_at d (length text) rest) behind behind more some refl
+      (behind_shorter d.layout d.has_quotes rest some) refl (skip_starts d behind) new on.row.targets_are error
+      (sym on.row.fault_is ∙ is)

@@ -3,5 +3,6 @@ pub mod InParts
 pub mod Overwritten
 pub mod RightRows
 pub mod RowPlaces
+pub mod RowsSkipped
 pub mod Skipping
 pub mod WorkedRows

@@ -1,5 +1,5 @@
 -- A row of which some cells were read.
-use Rattle.std.specs.Prelude.{◌≡◌, ◌≢◌, ◌==◌, ◌&&◌, ◌+◌, ◌-◌, ◌<◌, ◌≤◌, ℕ, false, true, if◌then◌else◌, List, [], ◌∷◌, ◌++◌, length, slice_index, take, drop, Option, Some, None, Result, Ok, Err}
+use Rattle.std.specs.Prelude.{◌≡◌, ◌≢◌, ◌==◌, ◌&&◌, ◌+◌, ◌-◌, ◌<◌, ◌≤◌, ℕ, zero, suc, false, true, if◌then◌else◌, List, [], ◌∷◌, ◌++◌, length, slice_index, take, drop, Option, Some, None, Result, Ok, Err}
 use Rattle.lexical_fields.specs.Columns as columns
 use Rattle.lexical_fields.specs.Fields.{FieldView}
 use Rattle.lexical_tables.specs.ByColumn.{AreUsable, cell_answers, cells_left, cells_of, column_count, kinds_of, put_row, row_answers, row_fault, row_values, separator_of}
@@ -73,28 +73,64 @@ pub record IsOnRow (dialect : Dialect) (separator : ℕ) (text left : List ℕ) 
   pub behind_separator : 0 < length text - length left
       → slice_index text (length text - length left - 1) ≡ separator
 
--- Cells of the first row of a text go into targets, where `end` is the place behind the text. `first`
--- columns were read before, and `from` was left of the text. Now `column` columns are read, and
--- `left` is left.
-abbrev pub GoesOn : Dialect → ℕ → ℕ → List ℕ → List ℕ → List ℕ → List (Option TargetView)
-    → List (Option TargetView) → ℕ → ℕ → Type 0
-GoesOn dialect index end text from left before after first column =
-    (start : ℕ) → start + length text ≡ end → (kinds : List (Option Kind))
-    (old : List (Option TargetView)) → let row = first_row dialect start text in
-    IsRowPut kinds dialect index row old before first
-    (cells_behind dialect row first (length text - length from))
-    → IsRowPut kinds dialect index row old after column
-    (cells_behind dialect row column (length text - length left))
+-- the first row of what is left of a text, where `end` is the place behind the text
+abbrev pub row_at : Dialect → ℕ → List ℕ → RowView
+row_at dialect end rest = first_row dialect (end - length rest) rest
 
--- the same up to the row's end, where nothing is wrong with the row
-abbrev pub GoesToEnd : Dialect → ℕ → ℕ → List ℕ → List ℕ → List (Option TargetView)
-    → List (Option TargetView) → ℕ → Type 0
-GoesToEnd dialect index end text from before after first =
-    (start : ℕ) → start + length text ≡ end → (kinds : List (Option Kind))
-    (old : List (Option TargetView)) → let row = first_row dialect start text in
-    IsRowPut kinds dialect index row old before first
-    (cells_behind dialect row first (length text - length from))
-    → IsRowDone kinds dialect index row old after None
+-- The first row of what is left of a text was read, and nothing is wrong with it: its values went
+-- into the targets, and `behind` is what stands behind it.
+pub record IsRowRead (dialect : Dialect) (end index : ℕ) (before : List (Option TargetView))
+    (rest : List ℕ) (after : List (Option TargetView)) (behind : List ℕ) : Type 0 where
+  pub some : 0 < length rest
+  pub right : row_fault (kinds_of before) dialect index (row_at dialect end rest) ≡ None
+  pub values : after
+      ≡ put_row index (row_values (kinds_of before) dialect (row_at dialect end rest)) before
+  pub line : behind ≡ behind_piece dialect.layout dialect.has_quotes rest
+
+-- One row more was read behind others.
+pub record IsOneMore (Earlier : List (Option TargetView) → List ℕ → Type 0) (dialect : Dialect)
+    (end index : ℕ) (after : List (Option TargetView)) (behind : List ℕ) : Type 0 where
+  pub before : List (Option TargetView)
+  pub rest : List ℕ
+  pub earlier : Earlier before rest
+  pub row : IsRowRead dialect end index before rest after behind
+
+-- `count` rows were read, one behind another, and nothing is wrong with them. The first of them is
+-- the row `first`, with which `from` begins.
+abbrev pub AreRowsRead : Dialect → ℕ → ℕ → List (Option TargetView) → List ℕ → ℕ
+    → List (Option TargetView) → List ℕ → Type 0
+AreRowsRead dialect end first old from zero now left = (now ≡ old) × (left ≡ from)
+AreRowsRead dialect end first old from (suc count) now left =
+    IsOneMore (AreRowsRead dialect end first old from count) dialect end (first + count) now left
+
+-- The first `column` cells of the first row of `rest` were read. `before` is what the targets were,
+-- and `now` what they are. `left` is left of the text.
+abbrev pub IsReadTo : Dialect → ℕ → ℕ → List (Option TargetView) → List ℕ
+    → List (Option TargetView) → ℕ → List ℕ → Type 0
+IsReadTo dialect end index before rest now column left =
+    IsRowPut (kinds_of before) dialect index (row_at dialect end rest) before now column
+    (cells_behind dialect (row_at dialect end rest) column (length rest - length left))
+
+-- Rows of a text were read from the row `first` on, and then the first cells of the row `index`, with
+-- which `rest` begins.
+pub record GoesOn (dialect : Dialect) (end first : ℕ) (old : List (Option TargetView))
+    (from : List ℕ) (now : List (Option TargetView)) (index : ℕ) (rest : List ℕ) (column : ℕ)
+    (left : List ℕ) : Type 0 where
+  pub count : ℕ
+  pub number : index ≡ first + count
+  pub before : List (Option TargetView)
+  pub rows : AreRowsRead dialect end first old from count before rest
+  pub cells : IsReadTo dialect end index before rest now column left
+
+-- The same, and then the whole row `index`, of which an answer was given.
+pub record GoesToEnd (dialect : Dialect) (end first : ℕ) (old : List (Option TargetView))
+    (from : List ℕ) (now : List (Option TargetView)) (index : ℕ) (rest : List ℕ)
+    (answer : Option TableError) : Type 0 where
+  pub count : ℕ
+  pub number : index ≡ first + count
+  pub before : List (Option TargetView)
+  pub rows : AreRowsRead dialect end first old from count before rest
+  pub row : IsRowDone (kinds_of before) dialect index (row_at dialect end rest) before now answer
 
 -- A part is the next cell of a text's first row, where `left` is the text from the cell on: its
 -- size, where it ends, and whether it is the row's last.

@@ -1,18 +1,286 @@
-//! The loops over the rows of a text whose cells marks find.
+//! The loops over the rows of a text whose cells marks find: one goes on from cell to cell, and from row to row.
 
-ghost use Rattle.std.specs.Prelude.{◌≡◌, ◌+◌, ◌-◌, ◌<◌, IfOk, None, length, map};
-ghost use Rattle.lexical_tables.specs.ByColumn.{AreUsable, StopsAt, columns_answer, columns_put, kinds_of};
+ghost use Rattle.std.specs.Prelude.{◌≡◌, ◌+◌, ◌-◌, ◌<◌, IfOk, None, length, map, ◌≤◌, ◌^◌, ℕ, List, Option, drop, false, true};
+ghost use Rattle.lexical_tables.specs.ByColumn.{AreUsable, StopsAt, columns_answer, columns_put, kinds_of, column_count};
 ghost use Rattle.lexical_tables.specs.Codes.{AreCodes};
-ghost use Rattle.lexical_tables.specs.RowSoFar.{IsMarked};
+ghost use Rattle.lexical_tables.specs.RowSoFar.{IsMarked, GoesOn, GoesToEnd, IsOnRow};
+ghost use Rattle.lexical_tables.specs.Ends.{AreEnds};
+ghost use Rattle.lexical_tables.specs.Rows.{behind_piece};
+ghost use Rattle.lexical_tables.specs.Targets.{TargetView};
 
 use crate::answers::{Table, TableError};
 use crate::cells::column_count;
+use crate::coded_cells::read_coded_cell;
 use crate::codes::{CODED, UNKNOWN, put_codes};
 use crate::dialect::Dialect;
-use crate::next_part::Left;
-use crate::pass::{behind_empty_rows, read_marked_row};
+use crate::ends::next_ends;
+use crate::far_cells::read_next_cell;
+use crate::next_part::{Left, behind_part, next_part};
+use crate::pass::behind_empty_rows;
+use crate::row_end::ends_wrong;
 use crate::targets::TableColumn;
 use lexical_parse_integer::Options;
+
+// A row that is being read: its number, the place where it starts, how many of its columns were read, and what is left of the
+// text behind these.
+#[derive(Copy, Clone)]
+pub(crate) struct OpenRow<'a> {
+    pub index: usize,
+    pub start: usize,
+    pub column: usize,
+    pub left: Left<'a>,
+}
+
+// A row of which no cell was read.
+#[inline(always)]
+fn open_row<'a>(text: &[u8], index: usize, left: Left<'a>) -> OpenRow<'a>
+    requires within { length left.text.now ≤ length text.now }
+    ensures { result ≡ record {
+      index = index;
+      start = length text.now - length left.entry.text.now;
+      column = 0;
+      left = left.entry;
+    } }
+{
+    OpenRow {
+        index,
+        start: text.len() - left.text.len(),
+        column: 0,
+        left,
+    }
+}
+
+// How far rows were read at once: up to a row that isn't done, or to the end of one.
+#[derive(Copy, Clone)]
+struct Stopped<'a> {
+    row: OpenRow<'a>,
+    is_done: bool,
+}
+
+// Reads cells by the codes of their columns, while marks find the cells and each is read at once, up to the end of the row
+// `last`, or to that of the text, if nothing is wrong there. Where a column has no code, it reads none. Without `HAS_CALLS` no
+// call stands in the loop, so that all it needs stays in registers.
+#[inline(always)]
+fn read_cells_at_once<'a, C: TableColumn, const HAS_QUOTES: bool, const HAS_CALLS: bool>(
+    text: &[u8],
+    from: OpenRow<'a>,
+    last: usize,
+    has_codes: bool,
+    columns: usize,
+    separator: u8,
+    codes: &[u8; CODED],
+    dialect: &Dialect<'_>,
+    options: &Options,
+    targets: &mut [C],
+) -> Stopped<'a>
+    requires quotes { dialect.now.has_quotes ≡ HAS_QUOTES }
+    requires within { from.start < length text.now }
+    requires marks { AreEnds dialect.now.has_quotes separator from.left.text.now from.left.marks }
+    requires here { IsOnRow dialect.now separator (drop from.start text.now) from.left.text.now }
+    requires columns { columns ≡ column_count dialect.now.layout }
+    requires few { from.column ≤ columns }
+    requires marked { IsMarked dialect.now separator }
+    requires codes { AreCodes dialect.now codes.now (map C.target targets.old) }
+    requires usable { AreUsable (last + 1) (map C.target targets.old) }
+    requires last { from.index ≤ last }
+    ensures goes_on { result.is_done ≡ false → (first : ℕ) (old : List (Option TargetView))
+        (rest : List ℕ) → GoesOn dialect.now (length text.now) first old rest
+        (map C.target targets.old) from.entry.index (drop from.entry.start text.now)
+        from.entry.column from.entry.left.text.now
+        → GoesOn dialect.now (length text.now) first old rest (map C.target targets.new)
+        result.row.index (drop result.row.start text.now) result.row.column
+        result.row.left.text.now }
+    ensures done { result.is_done ≡ true → (first : ℕ) (old : List (Option TargetView))
+        (rest : List ℕ) → GoesOn dialect.now (length text.now) first old rest
+        (map C.target targets.old) from.entry.index (drop from.entry.start text.now)
+        from.entry.column from.entry.left.text.now
+        → GoesToEnd dialect.now (length text.now) first old rest (map C.target targets.new)
+        result.row.index (drop result.row.start text.now) None }
+    ensures within { result.row.start < length text.now }
+    ensures left { length result.row.left.text.now ≤ length from.entry.left.text.now }
+    ensures here { result.is_done ≡ false
+        → IsOnRow dialect.now separator (drop result.row.start text.now)
+        result.row.left.text.now }
+    ensures behind { result.is_done ≡ true → result.row.left.text.now
+        ≡ behind_piece dialect.now.layout dialect.now.has_quotes
+        (drop result.row.start text.now) }
+    ensures shorter { result.is_done ≡ true → length result.row.left.text.now
+        < length (drop result.row.start text.now) }
+    ensures marks { AreEnds dialect.now.has_quotes separator result.row.left.text.now
+        result.row.left.marks }
+    ensures few { result.row.column ≤ columns }
+    ensures codes { AreCodes dialect.now codes.now (map C.target targets.new) }
+    ensures usable { AreUsable (last + 1) (map C.target targets.new) }
+    ensures last { result.row.index ≤ last }
+{
+    if !has_codes {
+        return Stopped {
+            row: from,
+            is_done: false,
+        };
+    }
+    let mut row = from;
+    while row.column < columns {
+        let marks = next_ends(row.left.text, row.left.marks, separator, HAS_QUOTES);
+        let left = Left {
+            text: row.left.text,
+            marks,
+        };
+        row = OpenRow { left, ..row };
+        if marks == 0 {
+            return Stopped {
+                row,
+                is_done: false,
+            };
+        }
+        let open = &text[row.start..];
+        let part = next_part(open, left.text, marks, separator, dialect);
+        let count = row.column + 1;
+        if ends_wrong(left.text, part, count, columns, dialect) {
+            return Stopped {
+                row,
+                is_done: false,
+            };
+        }
+        let place = text.len() - left.text.len();
+        if !read_coded_cell::<C, HAS_QUOTES, HAS_CALLS>(
+            targets, codes, row.column, row.index, place, left.text, part.size, dialect, options,
+        ) {
+            return Stopped {
+                row,
+                is_done: false,
+            };
+        }
+        row = OpenRow {
+            column: count,
+            left: behind_part(left, part.end),
+            ..row
+        };
+        if part.is_last {
+            if row.index == last || row.left.text.is_empty() {
+                return Stopped { row, is_done: true };
+            }
+            row = open_row(text, row.index + 1, row.left);
+        }
+    }
+    Stopped {
+        row,
+        is_done: false,
+    }
+}
+
+// The last of the rows that were read: its number, the place where it starts, and what is left of the text behind it.
+#[derive(Copy, Clone)]
+pub(crate) struct LastRow<'a> {
+    pub index: usize,
+    pub start: usize,
+    pub behind: Left<'a>,
+}
+
+// The number of the last row that may be read without a look at what stands behind a row: where empty rows are skipped, such
+// may stand there.
+#[inline(always)]
+pub(crate) fn last_at_once(index: usize, rows: usize, dialect: &Dialect<'_>) -> usize
+    requires more { index < rows }
+    ensures one { dialect.now.skips_empty_rows ≡ true → result ≡ index }
+    ensures behind { index ≤ result }
+    ensures few { result < rows }
+{
+    if dialect.skips_empty_rows {
+        return index;
+    }
+    rows - 1
+}
+
+// Puts what is read of rows into their places in the targets, from the first row of `from` on, where one pass of marks finds
+// the cells: up to the row `last`, or to the end of a row whose cells aren't all read at once, or of the text. A fault of that
+// row goes to `wrong`. An answer that may be a fault would clear its memory for each row. `SKIPS` says who calls it: a function
+// of one caller is inlined, however large it is.
+#[inline(always)]
+pub(crate) fn read_marked_rows<
+    'a,
+    C: TableColumn,
+    const HAS_QUOTES: bool,
+    const HAS_CALLS: bool,
+    const SKIPS: bool,
+>(
+    text: &'a [u8],
+    from: Left<'a>,
+    first: usize,
+    last: usize,
+    columns: usize,
+    separator: u8,
+    codes: &[u8; CODED],
+    dialect: &Dialect<'_>,
+    options: &Options,
+    targets: &mut [C],
+    wrong: &mut Option<TableError>,
+) -> LastRow<'a>
+    requires quotes { dialect.now.has_quotes ≡ HAS_QUOTES }
+    requires fine { wrong.old ≡ None }
+    requires some { 0 < length from.text.now }
+    requires within { length from.text.now ≤ length text.now }
+    requires tail { from.text.now ≡ drop (length text.now - length from.text.now) text.now }
+    requires marks { AreEnds dialect.now.has_quotes separator from.text.now from.marks }
+    requires columns { columns ≡ column_count dialect.now.layout }
+    requires marked { IsMarked dialect.now separator }
+    requires codes { AreCodes dialect.now codes.now (map C.target targets.old) }
+    requires usable { AreUsable (last + 1) (map C.target targets.old) }
+    requires last { first ≤ last }
+    ensures done { GoesToEnd dialect.now (length text.now) first (map C.target targets.old)
+        from.entry.text.now (map C.target targets.new) result.index
+        (drop result.start text.now) wrong.new }
+    ensures behind { wrong.new ≡ None → result.behind.text.now
+        ≡ behind_piece dialect.now.layout dialect.now.has_quotes (drop result.start text.now) }
+    ensures shorter { wrong.new ≡ None
+        → length result.behind.text.now < length (drop result.start text.now) }
+    ensures marks { AreEnds dialect.now.has_quotes separator result.behind.text.now
+        result.behind.marks }
+    ensures last { result.index ≤ last }
+    ensures within { result.start < length text.now }
+{
+    let has_codes = columns <= CODED && columns <= targets.len();
+    let mut row = open_row(text, first, from);
+    loop {
+        let read = read_cells_at_once::<C, HAS_QUOTES, HAS_CALLS>(
+            text, row, last, has_codes, columns, separator, codes, dialect, options, targets,
+        );
+        row = read.row;
+        if read.is_done {
+            return LastRow {
+                index: row.index,
+                start: row.start,
+                behind: row.left,
+            };
+        }
+        let next = read_next_cell(
+            row.start,
+            &text[row.start..],
+            row.left,
+            row.column,
+            row.index,
+            columns,
+            separator,
+            codes,
+            dialect,
+            options,
+            targets,
+            wrong,
+        );
+        if next.is_done {
+            return LastRow {
+                index: row.index,
+                start: row.start,
+                behind: next.left,
+            };
+        }
+        row = OpenRow {
+            column: next.column,
+            left: next.left,
+            ..row
+        };
+    }
+}
 
 // `read_columns` of a text with marks, by the columns' codes.
 #[inline(always)]
@@ -38,27 +306,18 @@ fn read_coded_rows<C: TableColumn, const HAS_QUOTES: bool, const HAS_CALLS: bool
     let columns = column_count(dialect);
     let mut left = behind_empty_rows(Left { text, marks: 0 }, Some(separator), dialect);
     let mut count = 0;
-    let mut wrong = None;
     while count < rows && !left.text.is_empty() {
-        let behind = read_marked_row::<C, HAS_QUOTES, HAS_CALLS, false>(
-            text.len(),
-            left,
-            count,
-            columns,
-            separator,
-            codes,
-            dialect,
-            options,
-            targets,
+        let last = last_at_once(count, rows, dialect);
+        let mut wrong = None;
+        let read = read_marked_rows::<C, HAS_QUOTES, HAS_CALLS, false>(
+            text, left, count, last, columns, separator, codes, dialect, options, targets,
             &mut wrong,
         );
-        if !behind.is_right {
-            if let Some(error) = wrong {
-                return Err(error);
-            }
+        if let Some(error) = wrong {
+            return Err(error);
         }
-        left = behind_empty_rows(behind.left, Some(separator), dialect);
-        count += 1;
+        left = behind_empty_rows(read.behind, Some(separator), dialect);
+        count = read.index + 1;
     }
     Ok(Table {
         rows: count,

@@ -1,4 +1,4 @@
-//! Rows whose cells are found in one pass, and whose numbers are mostly read at once.
+//! Rows as a table's reader meets them: with marks or without, and behind empty ones.
 
 ghost use Rattle.std.specs.Prelude.{◌≡◌, ◌≢◌, ◌==◌, ◌+◌, ◌-◌, ◌/◌, ◌<◌, ◌≤◌, ◌^◌, ◌&&◌, ℕ, IfOk, IfSome, IsTrue, None, Some, drop, false, length, map, not, slice_index, take, true};
 ghost use Rattle.lexical_tables.specs.ByColumn.{AreUsable, StopsAt, answer_at, column_count, columns_answer, columns_put, end_fault, fault_in, kinds_of, put_read_at, put_row, row_fault, row_values, separator_of};
@@ -10,13 +10,11 @@ ghost use Rattle.lexical_tables.specs.Rows.{FirstCounts, behind_piece, carriage_
 
 use crate::answers::{Table, TableError};
 use crate::by_column::read_rest;
-use crate::coded_cells::read_coded_cell;
 use crate::codes::{CODED, put_codes};
 use crate::dialect::{Dialect, Layout};
-use crate::ends::{LEAST_MARKED, next_ends};
-use crate::far_cells::read_row_on;
-use crate::next_part::{Left, behind_part, next_part};
-use crate::row_end::{ReadOn, done, ends_wrong, not_done};
+use crate::ends::LEAST_MARKED;
+use crate::marked_rows::{LastRow, read_marked_rows};
+use crate::next_part::Left;
 use crate::rows::without_empty_rows;
 use crate::targets::TableColumn;
 use crate::wide_rows::read_wide_row;
@@ -41,173 +39,14 @@ pub(crate) fn marked_separator(text: &[u8], dialect: &Dialect<'_>) -> Option<u8>
     Some(separator)
 }
 
-// Reads cells of a row by the codes of their columns, from `from` on, while marks find the cells and
-// each is read at once, up to the row's end, if nothing is wrong there. `end` is the place behind
-// the text. Without `HAS_CALLS` no call stands in the loop, so that all it needs stays in registers.
+// Puts what is read of rows into their places in the targets, as `read_marked_rows` does: where no marks find the cells, of one
+// row.
 #[inline(always)]
-pub(crate) fn read_cells_at_once<'a, C: TableColumn, const HAS_QUOTES: bool, const HAS_CALLS: bool>(
-    end: usize,
-    text: &[u8],
+pub(crate) fn read_first_rows<'a, C: TableColumn, const HAS_QUOTES: bool, const HAS_CALLS: bool>(
+    text: &'a [u8],
     from: Left<'a>,
     first: usize,
-    index: usize,
-    columns: usize,
-    separator: u8,
-    codes: &[u8; CODED],
-    dialect: &Dialect<'_>,
-    options: &Options,
-    targets: &mut [C],
-) -> ReadOn<'a>
-    requires quotes { dialect.now.has_quotes ≡ HAS_QUOTES }
-    requires marks { AreEnds dialect.now.has_quotes separator from.text.now from.marks }
-    requires here { IsOnRow dialect.now separator text.now from.text.now }
-    requires columns { columns ≡ column_count dialect.now.layout }
-    requires few { first ≤ columns }
-    requires marked { IsMarked dialect.now separator }
-    requires codes { AreCodes dialect.now codes.now (map C.target targets.old) }
-    requires usable { AreUsable (index + 1) (map C.target targets.old) }
-    requires within { length text.now ≤ end }
-    ensures goes_on { result.is_done ≡ false
-        → GoesOn dialect.now index end text.now from.entry.text.now result.left.text.now
-        (map C.target targets.old) (map C.target targets.new) first result.column }
-    ensures here { result.is_done ≡ false
-        → IsOnRow dialect.now separator text.now result.left.text.now }
-    ensures codes { result.is_done ≡ false
-        → AreCodes dialect.now codes.now (map C.target targets.new) }
-    ensures usable { result.is_done ≡ false → AreUsable (index + 1) (map C.target targets.new) }
-    ensures done { result.is_done ≡ true
-        → GoesToEnd dialect.now index end text.now from.entry.text.now
-        (map C.target targets.old) (map C.target targets.new) first }
-    ensures behind { result.is_done ≡ true → result.left.text.now
-        ≡ behind_piece dialect.now.layout dialect.now.has_quotes text.now }
-    ensures shorter { result.is_done ≡ true → length result.left.text.now < length text.now }
-    ensures marks { AreEnds dialect.now.has_quotes separator result.left.text.now
-        result.left.marks }
-    ensures counted { first ≤ result.column }
-    ensures few { result.column ≤ columns }
-{
-    let mut left = from;
-    let mut column = first;
-    let coded = columns.min(CODED).min(targets.len());
-    while column < coded {
-        let marks = next_ends(left.text, left.marks, separator, HAS_QUOTES);
-        left = Left {
-            text: left.text,
-            marks,
-        };
-        if marks == 0 {
-            return not_done(left, column);
-        }
-        let part = next_part(text, left.text, marks, separator, dialect);
-        let count = column + 1;
-        if ends_wrong(left.text, part, count, columns, dialect) {
-            return not_done(left, column);
-        }
-        let place = end - left.text.len();
-        if !read_coded_cell::<C, HAS_QUOTES, HAS_CALLS>(
-            targets, codes, column, index, place, left.text, part.size, dialect, options,
-        ) {
-            return not_done(left, column);
-        }
-        column = count;
-        left = behind_part(left, part.end);
-        if part.is_last {
-            return done(left, column);
-        }
-    }
-    not_done(left, column)
-}
-
-// What is left of a text behind a row, if that was read at once: then nothing is wrong, and no fault is asked for.
-#[derive(Copy, Clone)]
-pub(crate) struct Behind<'a> {
-    pub left: Left<'a>,
-    pub is_right: bool,
-}
-
-// Puts what is read of the first row of a text into its place in the targets, up to the row's
-// fault, which goes to `wrong`, where one pass of marks finds its cells. Returns what is left of
-// the text behind the row, where nothing is wrong. An answer that may be a fault would clear its
-// memory for each row. `SKIPS` says who calls it: a function of one caller is inlined, however
-// large it is.
-#[inline(always)]
-pub(crate) fn read_marked_row<
-    'a,
-    C: TableColumn,
-    const HAS_QUOTES: bool,
-    const HAS_CALLS: bool,
-    const SKIPS: bool,
->(
-    end: usize,
-    text: Left<'a>,
-    index: usize,
-    columns: usize,
-    separator: u8,
-    codes: &[u8; CODED],
-    dialect: &Dialect<'_>,
-    options: &Options,
-    targets: &mut [C],
-    wrong: &mut Option<TableError>,
-) -> Behind<'a>
-    requires quotes { dialect.now.has_quotes ≡ HAS_QUOTES }
-    requires fine { wrong.old ≡ None }
-    requires some { 0 < length text.text.now }
-    requires marks { AreEnds dialect.now.has_quotes separator text.text.now text.marks }
-    requires columns { columns ≡ column_count dialect.now.layout }
-    requires marked { IsMarked dialect.now separator }
-    requires codes { AreCodes dialect.now codes.now (map C.target targets.old) }
-    requires usable { AreUsable (index + 1) (map C.target targets.old) }
-    requires within { length text.text.now ≤ end }
-    ensures fault { wrong.new ≡ row_fault (kinds_of (map C.target targets.old)) dialect.now
-        index (first_row dialect.now (end - length text.entry.text.now) text.entry.text.now) }
-    ensures targets { map C.target targets.new ≡ put_row index (row_values
-        (kinds_of (map C.target targets.old)) dialect.now
-        (first_row dialect.now (end - length text.entry.text.now) text.entry.text.now))
-        (map C.target targets.old) }
-    ensures right { result.is_right ≡ true → wrong.new ≡ None }
-    ensures behind { wrong.new ≡ None → result.left.text.now
-        ≡ behind_piece dialect.now.layout dialect.now.has_quotes text.entry.text.now }
-    ensures shorter { wrong.new ≡ None → length result.left.text.now < length text.entry.text.now }
-    ensures marks { AreEnds dialect.now.has_quotes separator result.left.text.now
-        result.left.marks }
-{
-    let read = read_cells_at_once::<C, HAS_QUOTES, HAS_CALLS>(
-        end, text.text, text, 0, index, columns, separator, codes, dialect, options, targets,
-    );
-    if read.is_done {
-        return Behind {
-            left: read.left,
-            is_right: true,
-        };
-    }
-    let left = read_row_on::<C, HAS_QUOTES, HAS_CALLS>(
-        end - text.text.len(),
-        text.text,
-        read.left,
-        read.column,
-        index,
-        columns,
-        separator,
-        codes,
-        dialect,
-        options,
-        targets,
-        wrong,
-    );
-    Behind {
-        left,
-        is_right: false,
-    }
-}
-
-// Puts what is read of the first row of a text into its place in the targets, up to the row's
-// fault, which goes to `wrong`, and returns what is left of the text behind the row, where nothing
-// is wrong.
-#[inline(always)]
-pub(crate) fn read_row<'a, C: TableColumn, const HAS_QUOTES: bool, const HAS_CALLS: bool>(
-    start: usize,
-    text: Left<'a>,
-    index: usize,
+    last: usize,
     columns: usize,
     marked: Option<u8>,
     codes: &[u8; CODED],
@@ -215,54 +54,53 @@ pub(crate) fn read_row<'a, C: TableColumn, const HAS_QUOTES: bool, const HAS_CAL
     options: &Options,
     targets: &mut [C],
     wrong: &mut Option<TableError>,
-) -> Left<'a>
+) -> LastRow<'a>
     requires quotes { dialect.now.has_quotes ≡ HAS_QUOTES }
     requires fine { wrong.old ≡ None }
-    requires some { 0 < length text.text.now }
-    requires marks { AreEndsIf marked dialect.now.has_quotes text.text.now text.marks }
+    requires some { 0 < length from.text.now }
+    requires within { length from.text.now ≤ length text.now }
+    requires tail { from.text.now ≡ drop (length text.now - length from.text.now) text.now }
+    requires marks { AreEndsIf marked dialect.now.has_quotes from.text.now from.marks }
     requires columns { columns ≡ column_count dialect.now.layout }
     requires marked { IfSome marked (λ separator. IsMarked dialect.now separator) }
     requires codes { AreCodes dialect.now codes.now (map C.target targets.old) }
-    requires usable { AreUsable (index + 1) (map C.target targets.old) }
-    requires fits { start + length text.text.now < 2 ^ 64 }
-    ensures fault { wrong.new ≡ row_fault (kinds_of (map C.target targets.old)) dialect.now
-        index (first_row dialect.now start text.entry.text.now) }
-    ensures targets { map C.target targets.new ≡ put_row index (row_values
-        (kinds_of (map C.target targets.old)) dialect.now
-        (first_row dialect.now start text.entry.text.now)) (map C.target targets.old) }
-    ensures behind { wrong.new ≡ None → result.text.now
-        ≡ behind_piece dialect.now.layout dialect.now.has_quotes text.entry.text.now }
-    ensures shorter { wrong.new ≡ None → length result.text.now < length text.entry.text.now }
-    ensures marks { AreEndsIf marked dialect.now.has_quotes result.text.now result.marks }
+    requires usable { AreUsable (last + 1) (map C.target targets.old) }
+    requires last { first ≤ last }
+    ensures done { GoesToEnd dialect.now (length text.now) first (map C.target targets.old)
+        from.entry.text.now (map C.target targets.new) result.index
+        (drop result.start text.now) wrong.new }
+    ensures behind { wrong.new ≡ None → result.behind.text.now
+        ≡ behind_piece dialect.now.layout dialect.now.has_quotes (drop result.start text.now) }
+    ensures shorter { wrong.new ≡ None
+        → length result.behind.text.now < length (drop result.start text.now) }
+    ensures marks { AreEndsIf marked dialect.now.has_quotes result.behind.text.now
+        result.behind.marks }
+    ensures last { result.index ≤ last }
+    ensures within { result.start < length text.now }
 {
     if let Some(separator) = marked {
-        let behind = read_marked_row::<C, HAS_QUOTES, HAS_CALLS, true>(
-            start + text.text.len(),
-            text,
-            index,
-            columns,
-            separator,
-            codes,
-            dialect,
-            options,
-            targets,
-            wrong,
+        return read_marked_rows::<C, HAS_QUOTES, HAS_CALLS, true>(
+            text, from, first, last, columns, separator, codes, dialect, options, targets, wrong,
         );
-        return behind.left;
     }
+    let start = text.len() - from.text.len();
     let behind = read_unmarked_row::<C, false>(
         start,
-        text.text,
-        index,
+        from.text,
+        first,
         &[],
         dialect,
         options,
         targets,
         wrong,
     );
-    Left {
-        text: behind,
-        marks: 0,
+    LastRow {
+        index: first,
+        start,
+        behind: Left {
+            text: behind,
+            marks: 0,
+        },
     }
 }
 

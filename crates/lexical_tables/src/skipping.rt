@@ -15,9 +15,10 @@ use crate::bad_rows::{BadRow, KeptRow, Skipped, put_bad_row};
 use crate::cells::column_count;
 use crate::codes::{CODED, UNKNOWN};
 use crate::dialect::Dialect;
+use crate::marked_rows::last_at_once;
 use crate::next_part::Left;
 use crate::parts::whole_rows;
-use crate::pass::{self, ask_codes, behind_empty_rows, marked_separator};
+use crate::pass::{ask_codes, behind_empty_rows, marked_separator, read_first_rows};
 use crate::places::{RowPlace, behind_row};
 use crate::targets::TableColumn;
 use lexical_parse_integer::Options;
@@ -39,49 +40,6 @@ fn bad_row(error: TableError, bad_count: usize, start: usize, stop: usize) -> Ba
             fault: error.fault,
         },
         place: RowPlace { start, stop },
-    }
-}
-
-// Puts what is read of the first row of a text into its place in the targets, up to the row's
-// fault. Returns what is left of the text behind the row, or the fault.
-#[inline(always)]
-fn read_row<'a, C: TableColumn, const HAS_QUOTES: bool, const HAS_CALLS: bool>(
-    start: usize,
-    text: Left<'a>,
-    index: usize,
-    columns: usize,
-    marked: Option<u8>,
-    codes: &[u8; CODED],
-    dialect: &Dialect<'_>,
-    options: &Options,
-    targets: &mut [C],
-) -> Result<Left<'a>, TableError>
-    requires quotes { dialect.now.has_quotes ≡ HAS_QUOTES }
-    requires some { 0 < length text.text.now }
-    requires marks { AreEndsIf marked dialect.now.has_quotes text.text.now text.marks }
-    requires columns { columns ≡ column_count dialect.now.layout }
-    requires marked { IfSome marked (λ separator. IsMarked dialect.now separator) }
-    requires codes { AreCodes dialect.now codes.now (map C.target targets.old) }
-    requires usable { AreUsable (index + 1) (map C.target targets.old) }
-    requires fits { start + length text.text.now < 2 ^ 64 }
-    ensures fault { wrong_in result ≡ row_fault (kinds_of (map C.target targets.old)) dialect.now
-        index (first_row dialect.now start text.entry.text.now) }
-    ensures targets { map C.target targets.new ≡ put_row index (row_values
-        (kinds_of (map C.target targets.old)) dialect.now
-        (first_row dialect.now start text.entry.text.now)) (map C.target targets.old) }
-    ensures behind { IfOk result (λ left. left.text.now
-        ≡ behind_piece dialect.now.layout dialect.now.has_quotes text.entry.text.now) }
-    ensures shorter { IfOk result (λ left. length left.text.now < length text.entry.text.now) }
-    ensures marks { IfOk result (λ left.
-        AreEndsIf marked dialect.now.has_quotes left.text.now left.marks) }
-{
-    let mut wrong = None;
-    let left = pass::read_row::<C, HAS_QUOTES, HAS_CALLS>(
-        start, text, index, columns, marked, codes, dialect, options, targets, &mut wrong,
-    );
-    match wrong {
-        None => Ok(left),
-        Some(error) => Err(error),
     }
 }
 
@@ -150,19 +108,22 @@ fn skip_coded_rows<C: TableColumn, B: KeptRow, const HAS_QUOTES: bool, const HAS
     let mut count = 0;
     let mut bad_count = 0;
     while count < rows && !left.text.is_empty() {
-        let start = text.len() - left.text.len();
-        match read_row::<C, HAS_QUOTES, HAS_CALLS>(
-            start, left, count, columns, marked, codes, dialect, options, targets,
-        ) {
-            Ok(behind) => {
-                left = behind_empty_rows(behind, marked, dialect);
-                count += 1;
+        let last = last_at_once(count, rows, dialect);
+        let mut wrong = None;
+        let read = read_first_rows::<C, HAS_QUOTES, HAS_CALLS>(
+            text, left, count, last, columns, marked, codes, dialect, options, targets, &mut wrong,
+        );
+        match wrong {
+            None => {
+                left = behind_empty_rows(read.behind, marked, dialect);
+                count = read.index + 1;
             }
-            Err(error) => {
+            Some(error) => {
                 left = Left {
-                    text: pass_bad_row(text, start, error, bad_count, dialect, bad),
+                    text: pass_bad_row(text, read.start, error, bad_count, dialect, bad),
                     marks: 0,
                 };
+                count = read.index;
                 bad_count += 1;
             }
         }

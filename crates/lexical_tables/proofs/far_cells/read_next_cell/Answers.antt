@@ -107,6 +107,6 @@ returns-clause-done g c = λ is_done kinds old put.
     (c.end_row.ensures ∙ ap (λ n. end_fault n c.args.index row (column + 1) None) c.requires.columns)
 
 pub returns-then-not-found-clause-usable : goal.returns-then-not-found-clause-usable
-returns-then-not-found-clause-usable g c = λ goes.
-    subst (AreUsable (c.args.index + 1)) (sym c.read_left_cell.ensures.targets)
-    (use_put (c.args.index + 1) c.args.index c.args.column _ (map g.C.TableColumn.target c.args.targets.now) c.requires.usable)
+returns-then-not-found-clause-usable g c = λ goes room usable.
+    subst (AreUsable room) (sym c.read_left_cell.ensures.targets)
+    (use_put room c.args.index c.args.column _ (map g.C.TableColumn.target c.args.targets.now) usable)

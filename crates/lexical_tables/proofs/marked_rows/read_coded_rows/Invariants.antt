@@ -1,4 +1,4 @@
-use Rattle.std.proofs.Common.{◌≡◌, ◌-◌, None, map}
+use Rattle.std.proofs.Common.{◌-◌, map}
 use Rattle.lexical_tables.specs.Codes.{AreCodes}
 use Rattle.lexical_tables.specs.Ends.{AreEnds}
 use Rattle.lexical_tables.proofs.ColumnTables.{IsTablePut}
@@ -11,7 +11,6 @@ invariant-loop-count g l =
     l.count l.left.text.now
     × AreEnds l.dialect.has_quotes l.separator l.left.text.now l.left.marks
     × AreCodes l.dialect l.codes (map g.C.TableColumn.target l.targets)
-    × (l.wrong ≡ None)
 
 abbrev pub decreases-loop-count : goal.decreases-loop-count
 decreases-loop-count g l = l.rows - l.count

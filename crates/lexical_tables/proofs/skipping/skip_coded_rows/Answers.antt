@@ -1,11 +1,11 @@
-use Rattle.std.proofs.Common.{◌-◌, ◌<◌, arith, inl, inr, length, map, subst, sym}
+use Rattle.std.proofs.Common.{◌≡◌, ◌+◌, ◌-◌, ◌<◌, ◌≤◌, arith, drop, inl, inr, length, length-drop, map, set, subst, true}
 use Rattle.std.proofs.lemmas.Bool.Decides.{nat_tests}
-use Rattle.lexical_tables.specs.Codes.{AreCodes}
-use Rattle.lexical_tables.specs.Rows.{first_row}
-use Rattle.lexical_tables.proofs.CodeSteps.{codes_put_row}
 use Rattle.lexical_tables.proofs.PassSteps.{no_ends_if}
-use Rattle.lexical_tables.proofs.skipped.RowPlaces.{IsBehindRow, row_behind, rows_start}
-use Rattle.lexical_tables.proofs.skipped.Skipping.{bad_goes, right_goes, skipping_ends, skipping_fits, skipping_starts, skipping_usable}
+use Rattle.lexical_tables.proofs.PutSteps.{use_less}
+use Rattle.lexical_tables.proofs.ColumnTables.{codes_stay}
+use Rattle.lexical_tables.proofs.skipped.RowPlaces.{rows_start}
+use Rattle.lexical_tables.proofs.skipped.RowsSkipped.{bad_fits, bad_reaches, rest_first, skipping_reaches}
+use Rattle.lexical_tables.proofs.skipped.Skipping.{skipping_ends, skipping_starts}
 use Rattle.lexical_tables.proofs.skipping.skip_coded_rows.Goals.{then-loop-count-test+else-not-is_empty, else-loop-count-test}
 use Rattle.lexical_tables.proofs.skipping.skip_coded_rows.Goals as goal
 
@@ -22,61 +22,100 @@ loop-count-init g c =
       c.requires.codes,
     )
 
-pub read_row-requires-clause-usable : goal.read_row-requires-clause-usable
-read_row-requires-clause-usable g c =
-    skipping_usable g.B.KeptRow.kept c.args.dialect.now c.args.rows c.args.text.now (map g.C.TableColumn.target c.args.targets.now)
-    c.args.bad.now (map g.C.TableColumn.target c.loop-count.targets) c.loop-count.bad c.loop-count.count c.loop-count.bad_count
-    c.loop-count.left.text.now c.loop-count.invariant.0 c.loop-count-test.true
+pub read_first_rows-read-requires-clause-usable : goal.read_first_rows-read-requires-clause-usable
+read_first_rows-read-requires-clause-usable g c =
+    use_less (c.last_at_once-last.result + 1) c.args.rows (map g.C.TableColumn.target c.loop-count.targets)
+    (omega (arith, c.last_at_once-last.ensures.few)) c.loop-count.invariant.0.usable
 
-pub loop-count-preserved-in-Ok : goal.loop-count-preserved-in-Ok
-loop-count-preserved-in-Ok g c =
+pub loop-count-smaller-in-None : goal.loop-count-smaller-in-None
+loop-count-smaller-in-None g c =
+    let some : 0 < length c.loop-count.left.text.now = grind (arith, nat_tests) in
+    omega (arith, c.read_first_rows-read.ensures.done.number, c.loop-count.invariant.0.passed.few, some)
+
+pub loop-count-preserved-in-None : goal.loop-count-preserved-in-None
+loop-count-preserved-in-None g c =
     let d = c.args.dialect.now in
     let text = c.args.text.now in
+    let read = c.read_first_rows-read in
+    let last = c.last_at_once-last in
+    let rest = drop read.result.start text in
+    let before = map g.C.TableColumn.target c.loop-count.targets in
     let left = c.loop-count.left.text.now in
-    let reading = c.loop-count.invariant.0 in
-    let some : 0 < length left = grind (arith, nat_tests) in
-    let empty = c.behind_empty_rows-left-in-Ok.ensures in
-    let step = row_behind d left c.in-Ok.behind.text.now c.behind_empty_rows-left-in-Ok.result.text.now some
-    reading.passed.first_counts c.in-Ok.ensures.behind c.in-Ok.ensures.shorter
-    (record { within = empty.within; tail = empty.tail; rows_are = empty.rows }) empty.first in (
-      right_goes g.B.KeptRow.kept d c.args.rows text (map g.C.TableColumn.target c.args.targets.now) c.args.bad.now
-          (map g.C.TableColumn.target c.loop-count.targets) c.loop-count.bad c.loop-count.count c.loop-count.bad_count left reading
-          c.behind_empty_rows-left-in-Ok.result.text.now step c.loop-count-test.true
-          (map g.C.TableColumn.target c.read_row.new.targets) c.in-Ok.ensures.targets (sym c.in-Ok.ensures.fault),
-      empty.marks,
-      subst (AreCodes d c.args.codes.now) (sym c.in-Ok.ensures.targets)
-          (codes_put_row d c.args.codes.now c.loop-count.count _ (map g.C.TableColumn.target c.loop-count.targets)
-          c.loop-count.invariant.2),
+    let now = map g.C.TableColumn.target read.new.targets in
+    let one : d.skips_empty_rows ≡ true → read.result.index ≤ c.loop-count.count =
+    λ skips. omega (arith, last.ensures.one skips, read.ensures.last) in
+    let empty = c.behind_empty_rows-left-in-None in (
+      skipping_reaches g.B.KeptRow.kept d c.args.rows text (map g.C.TableColumn.target c.args.targets.now) c.args.bad.now before
+          c.loop-count.bad c.loop-count.count c.loop-count.bad_count left c.loop-count.invariant.0 now read.result.index rest
+          read.new.wrong read.ensures.done one (omega (arith, read.ensures.last, last.ensures.few))
+          (omega (arith, length-drop read.result.start text, read.ensures.within)) c.in-None.is read.result.behind.text.now
+          empty.result.text.now (read.ensures.behind c.in-None.is)
+          (record { within = empty.ensures.within; tail = empty.ensures.tail; rows_are = empty.ensures.rows })
+          empty.ensures.first,
+      empty.ensures.marks,
+      codes_stay d c.args.codes.now (length text) c.loop-count.count before left now read.result.index rest read.new.wrong
+          read.ensures.done c.loop-count.invariant.2,
     )
+
+pub pass_bad_row-requires-clause-first : goal.pass_bad_row-requires-clause-first
+pass_bad_row-requires-clause-first g c =
+    let d = c.args.dialect.now in
+    let text = c.args.text.now in
+    let read = c.read_first_rows-read in
+    let last = c.last_at_once-last in
+    rest_first g.B.KeptRow.kept d c.args.rows text (map g.C.TableColumn.target c.args.targets.now) c.args.bad.now
+    (map g.C.TableColumn.target c.loop-count.targets) c.loop-count.bad c.loop-count.count c.loop-count.bad_count
+    c.loop-count.left.text.now c.loop-count.invariant.0 (map g.C.TableColumn.target read.new.targets) read.result.index
+    (drop read.result.start text) read.new.wrong read.ensures.done
+    (λ skips. omega (arith, last.ensures.one skips, read.ensures.last)) (omega (arith, read.ensures.last, last.ensures.few))
+    (omega (arith, length-drop read.result.start text, read.ensures.within))
 
 pub pass_bad_row-requires-clause-fits : goal.pass_bad_row-requires-clause-fits
 pass_bad_row-requires-clause-fits g c =
     let d = c.args.dialect.now in
     let text = c.args.text.now in
-    let left = c.loop-count.left.text.now in
-    let low = skipping_fits g.B.KeptRow.kept d c.args.rows text (map g.C.TableColumn.target c.args.targets.now) c.args.bad.now
-    (map g.C.TableColumn.target c.loop-count.targets) c.loop-count.bad c.loop-count.count c.loop-count.bad_count left
-    c.loop-count.invariant.0 (first_row d (length text - length left) left) c.in-Err.error (sym c.in-Err.ensures.fault) in
+    let read = c.read_first_rows-read in
+    let last = c.last_at_once-last in
+    let low = bad_fits g.B.KeptRow.kept d c.args.rows text (map g.C.TableColumn.target c.args.targets.now) c.args.bad.now
+    (map g.C.TableColumn.target c.loop-count.targets) c.loop-count.bad c.loop-count.count c.loop-count.bad_count
+    c.loop-count.left.text.now c.loop-count.invariant.0 (map g.C.TableColumn.target read.new.targets) read.result.index
+    (drop read.result.start text) read.new.wrong read.ensures.done
+    (λ skips. omega (arith, last.ensures.one skips, read.ensures.last)) (omega (arith, read.ensures.last, last.ensures.few))
+    (omega (arith, length-drop read.result.start text, read.ensures.within)) c.in-Some.error c.in-Some.is in
     grind (arith, low)
+
+pub loop-count-smaller : goal.loop-count-smaller
+loop-count-smaller g c =
+    let some : 0 < length c.loop-count.left.text.now = grind (arith, nat_tests) in
+    omega (arith, c.read_first_rows-read.ensures.done.number, c.loop-count.invariant.0.passed.few, some)
 
 pub loop-count-preserved : goal.loop-count-preserved
 loop-count-preserved g c =
     let d = c.args.dialect.now in
     let text = c.args.text.now in
+    let read = c.read_first_rows-read in
+    let last = c.last_at_once-last in
+    let start = read.result.start in
+    let rest = drop start text in
+    let before = map g.C.TableColumn.target c.loop-count.targets in
     let left = c.loop-count.left.text.now in
-    let reading = c.loop-count.invariant.0 in
+    let now = map g.C.TableColumn.target read.new.targets in
     let behind = c.pass_bad_row.ensures in
-    let step = subst (λ l. IsBehindRow d l c.pass_bad_row.result.now) (sym reading.passed.tail)
-    (record { shorter = behind.shorter; tail = behind.tail; rows_are = behind.rows; first_counts = behind.first }) in (
-      bad_goes g.B.KeptRow.kept d c.args.rows text (map g.C.TableColumn.target c.args.targets.now) c.args.bad.now
-          (map g.C.TableColumn.target c.loop-count.targets) c.loop-count.bad c.loop-count.count c.loop-count.bad_count left
-          reading c.pass_bad_row.result.now step
-          c.loop-count-test.true (map g.C.TableColumn.target c.read_row.new.targets) c.in-Err.ensures.targets
-          c.in-Err.error (sym c.in-Err.ensures.fault) c.pass_bad_row.new.bad behind.bad,
+    let begins : start ≡ length text - length rest = omega (arith, length-drop start text, read.ensures.within) in (
+      bad_reaches g.B.KeptRow.kept d c.args.rows text (map g.C.TableColumn.target c.args.targets.now) c.args.bad.now before
+          c.loop-count.bad c.loop-count.count c.loop-count.bad_count left c.loop-count.invariant.0 now read.result.index rest
+          read.new.wrong read.ensures.done (λ skips. omega (arith, last.ensures.one skips, read.ensures.last))
+          (omega (arith, read.ensures.last, last.ensures.few)) (omega (arith, length-drop start text, read.ensures.within))
+          c.in-Some.error c.in-Some.is c.pass_bad_row.result.now
+          (record { shorter = behind.shorter; tail = behind.tail; rows_are = behind.rows; first_counts = behind.first })
+          c.pass_bad_row.new.bad
+          (subst (λ k. c.pass_bad_row.new.bad ≡ set c.loop-count.bad c.loop-count.bad_count (g.B.KeptRow.kept (record {
+            error = record c.in-Some.error { row = c.in-Some.error.row + c.loop-count.bad_count };
+            place = record { start = k; stop = length text - length c.pass_bad_row.result.now };
+          }))) begins behind.bad),
       no_ends_if c.args.marked d.has_quotes c.pass_bad_row.result.now,
-      subst (AreCodes d c.args.codes.now) (sym c.in-Err.ensures.targets)
-          (codes_put_row d c.args.codes.now c.loop-count.count _ (map g.C.TableColumn.target c.loop-count.targets)
-          c.loop-count.invariant.2),
+      codes_stay d c.args.codes.now (length text) c.loop-count.count before left now read.result.index rest read.new.wrong
+          read.ensures.done c.loop-count.invariant.2,
     )
 
 pub returns : goal.returns

@@ -1,4 +1,4 @@
-use Rattle.std.proofs.Common.{map, length}
+use Rattle.std.proofs.Common.{◌-◌, ◌+◌, map, length}
 use Rattle.lexical_tables.specs.Codes.{AreCodes}
 use Rattle.lexical_tables.specs.Ends.{AreEndsIf}
 use Rattle.lexical_tables.proofs.skipped.Skipping.{IsSkipping}
@@ -13,4 +13,4 @@ invariant-loop-count g l =
     × AreCodes l.dialect l.codes (map g.C.TableColumn.target l.targets)
 
 abbrev pub decreases-loop-count : goal.decreases-loop-count
-decreases-loop-count g l = length l.left.text.now
+decreases-loop-count g l = length l.text - (l.count + l.bad_count)
