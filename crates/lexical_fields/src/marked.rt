@@ -142,24 +142,6 @@ pub fn number_to_12(digits: &[u8], count: usize) -> Option<u64>
     Some(u64::from(high) * 1_000_000 + u64::from(low))
 }
 
-/// The number that a text's first `size` bytes write, and whether a minus stands in front, where they are one to
-/// twelve decimal digits alone or behind a minus. `None` says nothing of them. Seventeen bytes have to follow them.
-#[inline(always)]
-pub fn number_of_front(text: &[u8], size: usize) -> Option<(bool, u64)>
-    requires room { size + 17 ≤ length text.now }
-    ensures writes { IfSome result (λ found. IsNumeral found.0 found.1 (take size text.now)) }
-    ensures small { IfSome result (λ found. found.1 < 10 ^ 12) }
-{
-    let is_negative = text[0] == b'-';
-    let digits = &text[usize::from(is_negative)..];
-    let count = size.wrapping_sub(usize::from(is_negative));
-    if count.wrapping_sub(1) > 11 {
-        return None;
-    }
-    let number = number_to_12(digits, count)?;
-    Some((is_negative, number))
-}
-
 // The number of thirteen to eighteen digits with room behind them: the last twelve, and those before.
 #[inline(always)]
 fn number_from_13(digits: &[u8], count: usize) -> Option<u64>
@@ -174,10 +156,28 @@ fn number_from_13(digits: &[u8], count: usize) -> Option<u64>
     Some(first * 1_000_000_000_000 + last)
 }
 
-/// The number that a text's first `size` bytes write, as [`number_of_front`] has it, where they are thirteen to
-/// eighteen digits.
+// The number of one to eighteen digits with room behind them.
 #[inline(always)]
-pub fn long_number_of_front(text: &[u8], size: usize) -> Option<(bool, u64)>
+fn number_to_18(digits: &[u8], count: usize) -> Option<u64>
+    requires room { count ≤ 18 → count + 16 ≤ length digits.now }
+    ensures some { IfSome result (λ number. 1 ≤ count) }
+    ensures few { IfSome result (λ number. count ≤ 18) }
+    ensures writes { IfSome result (λ number. WritesDecimal 0 (take count digits.now) number) }
+    ensures small { IfSome result (λ number. number < 10 ^ 18) }
+{
+    if count.wrapping_sub(1) > 11 {
+        if count.wrapping_sub(13) > 5 {
+            return None;
+        }
+        return number_from_13(digits, count);
+    }
+    number_to_12(digits, count)
+}
+
+/// The number that a text's first `size` bytes write, and whether a minus stands in front, where they are one to
+/// eighteen decimal digits alone or behind a minus. `None` says nothing of them. Seventeen bytes have to follow them.
+#[inline(always)]
+pub fn number_of_front(text: &[u8], size: usize) -> Option<(bool, u64)>
     requires room { size + 17 ≤ length text.now }
     ensures writes { IfSome result (λ found. IsNumeral found.0 found.1 (take size text.now)) }
     ensures small { IfSome result (λ found. found.1 < 10 ^ 18) }
@@ -185,10 +185,7 @@ pub fn long_number_of_front(text: &[u8], size: usize) -> Option<(bool, u64)>
     let is_negative = text[0] == b'-';
     let digits = &text[usize::from(is_negative)..];
     let count = size.wrapping_sub(usize::from(is_negative));
-    if count.wrapping_sub(13) > 5 {
-        return None;
-    }
-    let number = number_from_13(digits, count)?;
+    let number = number_to_18(digits, count)?;
     Some((is_negative, number))
 }
 

@@ -6,12 +6,12 @@ ghost use Rattle.lexical_tables.specs.Codes.{AreCodes, IsCodeIn};
 
 use crate::answers::TableError;
 use crate::by_column::read_by_column;
-use crate::codes::{CODED, NOT_READ, U8, code_of};
+use crate::codes::{CODED, TEXTS, U8, code_of};
 use crate::content::Cell;
 use crate::dialect::Dialect;
-use crate::digit_cells::{read_coded, read_long_coded};
-use crate::known_cells::{read_known, read_plain};
-use crate::number_cells::{SHORT, read_other_number};
+use crate::digit_cells::read_coded;
+use crate::known_cells::read_text;
+use crate::number_cells::read_other_number;
 use crate::targets::TableColumn;
 use lexical_parse_integer::Options;
 
@@ -59,82 +59,10 @@ pub(crate) fn read_coded_cell<C: TableColumn, const HAS_QUOTES: bool, const HAS_
     )
 }
 
-// Reads the cell of a column as `read_coded_cell` does, of more digits. Out of line, to keep registers for the loop.
-#[inline(never)]
-fn read_long_cell<C: TableColumn>(
-    targets: &mut [C],
-    codes: &[u8; CODED],
-    column: usize,
-    row: usize,
-    ahead: &[u8],
-    size: usize,
-    dialect: &Dialect<'_>,
-) -> bool
-    requires codes { AreCodes dialect.now codes.now (map C.target targets.old) }
-    requires usable { AreUsable (row + 1) (map C.target targets.old) }
-    requires room { size + 17 ≤ length ahead.now }
-    ensures fault { IsTrue result → (start : ℕ) → fault_in (answer_at dialect.now
-        (kinds_of (map C.target targets.old)) column
-        (record { start = start; text = take size ahead.now })) ≡ None }
-    ensures targets { IsTrue result → (start : ℕ) → map C.target targets.new ≡ put_read_at row
-        column (answer_at dialect.now (kinds_of (map C.target targets.old)) column
-        (record { start = start; text = take size ahead.now })) (map C.target targets.old) }
-    ensures kept { result ≡ false → map C.target targets.new ≡ map C.target targets.old }
-{
-    if column >= CODED {
-        return false;
-    }
-    if column >= targets.len() {
-        return false;
-    }
-    read_long_coded(
-        &mut targets[column],
-        codes[column],
-        row,
-        ahead,
-        size,
-        dialect,
-    )
-}
-
-// Reads the cell of a column as `read_plain` does, the first `size` bytes of a text.
+// Reads the cell of a column of texts that `read_coded_cell` has left, the first `size` bytes of a text, if its quotes are in
+// place, and returns whether it did.
 #[inline(always)]
-fn read_plain_cell<C: TableColumn>(
-    targets: &mut [C],
-    code: u8,
-    column: usize,
-    row: usize,
-    start: usize,
-    ahead: &[u8],
-    size: usize,
-    dialect: &Dialect<'_>,
-) -> bool
-    requires code { column < length targets.old
-        → IsCodeIn dialect.now code (get_or (map C.target targets.old) column None) }
-    requires usable { AreUsable (row + 1) (map C.target targets.old) }
-    requires within { size ≤ length ahead.now }
-    ensures fault { IsTrue result → fault_in (answer_at dialect.now
-        (kinds_of (map C.target targets.old)) column
-        (record { start = start; text = take size ahead.now })) ≡ None }
-    ensures targets { IsTrue result → map C.target targets.new ≡ put_read_at row column
-        (answer_at dialect.now (kinds_of (map C.target targets.old)) column
-        (record { start = start; text = take size ahead.now })) (map C.target targets.old) }
-    ensures kept { result ≡ false → map C.target targets.new ≡ map C.target targets.old }
-{
-    if dialect.has_quotes || column >= targets.len() {
-        return false;
-    }
-    let cell = Cell {
-        start,
-        text: &ahead[..size],
-        ahead,
-    };
-    read_plain(&mut targets[column], code, row, cell, dialect)
-}
-
-// Reads the cell of a column as `read_known` does, the first `size` bytes of a text. Out of line, to keep registers for the loop.
-#[inline(never)]
-fn read_known_cell<C: TableColumn>(
+fn read_long_text<C: TableColumn>(
     targets: &mut [C],
     code: u8,
     column: usize,
@@ -157,7 +85,7 @@ fn read_known_cell<C: TableColumn>(
         (record { start = start; text = take size ahead.now })) (map C.target targets.old) }
     ensures kept { result ≡ false → map C.target targets.new ≡ map C.target targets.old }
 {
-    if column >= targets.len() {
+    if code != TEXTS || column >= targets.len() {
         return false;
     }
     let cell = Cell {
@@ -165,39 +93,7 @@ fn read_known_cell<C: TableColumn>(
         text: &ahead[..size],
         ahead,
     };
-    read_known(&mut targets[column], code, row, cell, dialect)
-}
-
-// Reads the cell of a column that `read_coded_cell` has left, the first `size` bytes of a text, by the column's code: a text, or a
-// number that is read at once. It returns whether it did.
-#[inline(always)]
-fn read_by_code<C: TableColumn>(
-    targets: &mut [C],
-    code: u8,
-    column: usize,
-    row: usize,
-    start: usize,
-    ahead: &[u8],
-    size: usize,
-    dialect: &Dialect<'_>,
-) -> bool
-    requires code { column < length targets.old
-        → IsCodeIn dialect.now code (get_or (map C.target targets.old) column None) }
-    requires usable { AreUsable (row + 1) (map C.target targets.old) }
-    requires within { size ≤ length ahead.now }
-    requires fits { start + size < 2 ^ 64 }
-    ensures fault { IsTrue result → fault_in (answer_at dialect.now
-        (kinds_of (map C.target targets.old)) column
-        (record { start = start; text = take size ahead.now })) ≡ None }
-    ensures targets { IsTrue result → map C.target targets.new ≡ put_read_at row column
-        (answer_at dialect.now (kinds_of (map C.target targets.old)) column
-        (record { start = start; text = take size ahead.now })) (map C.target targets.old) }
-    ensures kept { result ≡ false → map C.target targets.new ≡ map C.target targets.old }
-{
-    if read_plain_cell(targets, code, column, row, start, ahead, size, dialect) {
-        return true;
-    }
-    read_known_cell(targets, code, column, row, start, ahead, size, dialect)
+    read_text(&mut targets[column], row, cell, dialect)
 }
 
 // Reads the cell of a column with the code of a type that `read_coded_cell` has left, the first `size` bytes of a text, and
@@ -205,7 +101,6 @@ fn read_by_code<C: TableColumn>(
 #[inline(always)]
 fn read_typed_cell<C: TableColumn>(
     targets: &mut [C],
-    codes: &[u8; CODED],
     code: u8,
     column: usize,
     row: usize,
@@ -217,7 +112,6 @@ fn read_typed_cell<C: TableColumn>(
     wrong: &mut Option<TableError>,
 ) -> bool
     requires fine { wrong.old ≡ None }
-    requires codes { AreCodes dialect.now codes.now (map C.target targets.old) }
     requires code { column < length targets.old
         → IsCodeIn dialect.now code (get_or (map C.target targets.old) column None) }
     requires read { 8 ≤ code }
@@ -234,9 +128,6 @@ fn read_typed_cell<C: TableColumn>(
         (kinds_of (map C.target targets.old)) column
         (record { start = start; text = take size ahead.now })) (map C.target targets.old) }
 {
-    if size > SHORT && read_long_cell(targets, codes, column, row, ahead, size, dialect) {
-        return true;
-    }
     if dialect.has_quotes || column >= targets.len() {
         return read_by_column::<C, false>(
             targets, column, row, start, ahead, size, dialect, options, wrong,
@@ -289,13 +180,11 @@ pub(crate) fn read_left_cell<C: TableColumn>(
     let code = code_of(codes, column);
     if code >= U8 {
         return read_typed_cell(
-            targets, codes, code, column, row, start, ahead, size, dialect, options, wrong,
+            targets, code, column, row, start, ahead, size, dialect, options, wrong,
         );
     }
-    if code > NOT_READ {
-        if read_by_code(targets, code, column, row, start, ahead, size, dialect) {
-            return true;
-        }
+    if read_long_text(targets, code, column, row, start, ahead, size, dialect) {
+        return true;
     }
     read_by_column::<C, false>(
         targets, column, row, start, ahead, size, dialect, options, wrong,

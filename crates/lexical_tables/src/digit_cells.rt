@@ -14,7 +14,7 @@ use crate::dialect::Dialect;
 use crate::known_cells::{read_bare_cell, read_parsed_cell, read_text_cell};
 use crate::quotes::shows_no_quote;
 use crate::targets::TableColumn;
-use lexical_fields::{long_number_of_front, number_of_front};
+use lexical_fields::number_of_front;
 use lexical_parse_integer::Options;
 
 // The text behind the first quote of a cell, and how many of its bytes the cell has between its
@@ -173,39 +173,4 @@ pub(crate) fn read_coded<C: TableColumn, const HAS_QUOTES: bool, const HAS_CALLS
     }
     let (held, count) = within_quotes(ahead, size, HAS_QUOTES);
     put_found(target, code, row, held, count, number_of_front(held, count))
-}
-
-// Reads a cell as `read_coded` does, of more digits.
-#[inline(always)]
-pub(crate) fn read_long_coded<C: TableColumn>(
-    target: &mut C,
-    code: u8,
-    row: usize,
-    ahead: &[u8],
-    size: usize,
-    dialect: &Dialect<'_>,
-) -> bool
-    requires code { IsCodeIn dialect.now code (C.target target.old) }
-    requires usable { IsUsable (row + 1) (C.target target.old) }
-    requires room { size + 17 ≤ length ahead.now }
-    ensures fault { IsTrue result → (start : ℕ) → fault_in (answer_as dialect.now
-        (option_map kind_of (C.target target.old))
-        (record { start = start; text = take size ahead.now })) ≡ None }
-    ensures target { IsTrue result → (start : ℕ) → C.target target.new ≡ option_map (put_read row
-        (answer_as dialect.now (option_map kind_of (C.target target.old))
-        (record { start = start; text = take size ahead.now }))) (C.target target.old) }
-    ensures kept { result ≡ false → C.target target.new ≡ C.target target.old }
-{
-    if code < U8 {
-        return false;
-    }
-    let (held, count) = within_quotes(ahead, size, dialect.has_quotes);
-    put_found(
-        target,
-        code,
-        row,
-        held,
-        count,
-        long_number_of_front(held, count),
-    )
 }

@@ -57,15 +57,40 @@ struct Stopped<'a> {
     is_done: bool,
 }
 
+// Rows that were read at once, up to this one.
+#[inline(always)]
+fn stopped_at(
+    index: usize,
+    start: usize,
+    column: usize,
+    left: Left<'_>,
+    is_done: bool,
+) -> Stopped<'_>
+    ensures { result ≡ record {
+      row = record { index = index; start = start; column = column; left = left.entry; };
+      is_done = is_done;
+    } }
+{
+    Stopped {
+        row: OpenRow {
+            index,
+            start,
+            column,
+            left,
+        },
+        is_done,
+    }
+}
+
 // Reads cells by the codes of their columns, while marks find the cells and each is read at once, up to the end of the row
-// `last`, or to that of the text, if nothing is wrong there. Where a column has no code, it reads none. Without `HAS_CALLS` no
-// call stands in the loop, so that all it needs stays in registers.
+// `last`, or to that of the text, if nothing is wrong there. The first `coded` columns have codes. Without `HAS_CALLS` no call
+// stands in the loop, so that all it needs stays in registers.
 #[inline(always)]
 fn read_cells_at_once<'a, C: TableColumn, const HAS_QUOTES: bool, const HAS_CALLS: bool>(
     text: &[u8],
     from: OpenRow<'a>,
     last: usize,
-    has_codes: bool,
+    coded: usize,
     columns: usize,
     separator: u8,
     codes: &[u8; CODED],
@@ -78,6 +103,7 @@ fn read_cells_at_once<'a, C: TableColumn, const HAS_QUOTES: bool, const HAS_CALL
     requires marks { AreEnds dialect.now.has_quotes separator from.left.text.now from.left.marks }
     requires here { IsOnRow dialect.now separator (drop from.start text.now) from.left.text.now }
     requires columns { columns ≡ column_count dialect.now.layout }
+    requires coded { coded ≤ columns }
     requires few { from.column ≤ columns }
     requires marked { IsMarked dialect.now separator }
     requires codes { AreCodes dialect.now codes.now (map C.target targets.old) }
@@ -113,60 +139,42 @@ fn read_cells_at_once<'a, C: TableColumn, const HAS_QUOTES: bool, const HAS_CALL
     ensures usable { AreUsable (last + 1) (map C.target targets.new) }
     ensures last { result.row.index ≤ last }
 {
-    if !has_codes {
-        return Stopped {
-            row: from,
-            is_done: false,
-        };
-    }
-    let mut row = from;
-    while row.column < columns {
-        let marks = next_ends(row.left.text, row.left.marks, separator, HAS_QUOTES);
-        let left = Left {
-            text: row.left.text,
+    let mut index = from.index;
+    let mut start = from.start;
+    let mut column = from.column;
+    let mut left = from.left;
+    while column < coded {
+        let marks = next_ends(left.text, left.marks, separator, HAS_QUOTES);
+        left = Left {
+            text: left.text,
             marks,
         };
-        row = OpenRow { left, ..row };
         if marks == 0 {
-            return Stopped {
-                row,
-                is_done: false,
-            };
+            return stopped_at(index, start, column, left, false);
         }
-        let open = &text[row.start..];
-        let part = next_part(open, left.text, marks, separator, dialect);
-        let count = row.column + 1;
+        let part = next_part(&text[start..], left.text, marks, separator, dialect);
+        let count = column + 1;
         if ends_wrong(left.text, part, count, columns, dialect) {
-            return Stopped {
-                row,
-                is_done: false,
-            };
+            return stopped_at(index, start, column, left, false);
         }
         let place = text.len() - left.text.len();
         if !read_coded_cell::<C, HAS_QUOTES, HAS_CALLS>(
-            targets, codes, row.column, row.index, place, left.text, part.size, dialect, options,
+            targets, codes, column, index, place, left.text, part.size, dialect, options,
         ) {
-            return Stopped {
-                row,
-                is_done: false,
-            };
+            return stopped_at(index, start, column, left, false);
         }
-        row = OpenRow {
-            column: count,
-            left: behind_part(left, part.end),
-            ..row
-        };
+        column = count;
+        left = behind_part(left, part.end);
         if part.is_last {
-            if row.index == last || row.left.text.is_empty() {
-                return Stopped { row, is_done: true };
+            if index == last || left.text.is_empty() {
+                return stopped_at(index, start, column, left, true);
             }
-            row = open_row(text, row.index + 1, row.left);
+            index += 1;
+            start = text.len() - left.text.len();
+            column = 0;
         }
     }
-    Stopped {
-        row,
-        is_done: false,
-    }
+    stopped_at(index, start, column, left, false)
 }
 
 // The last of the rows that were read: its number, the place where it starts, and what is left of the text behind it.
@@ -239,11 +247,11 @@ pub(crate) fn read_marked_rows<
     ensures last { result.index ≤ last }
     ensures within { result.start < length text.now }
 {
-    let has_codes = columns <= CODED && columns <= targets.len();
+    let coded = columns.min(CODED).min(targets.len());
     let mut row = open_row(text, first, from);
     loop {
         let read = read_cells_at_once::<C, HAS_QUOTES, HAS_CALLS>(
-            text, row, last, has_codes, columns, separator, codes, dialect, options, targets,
+            text, row, last, coded, columns, separator, codes, dialect, options, targets,
         );
         row = read.row;
         if read.is_done {

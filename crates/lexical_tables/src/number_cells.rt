@@ -19,7 +19,7 @@ use lexical_parse_integer::Options;
 const ROOM_BEHIND: usize = 17;
 
 // How many bytes a cell may have whose digits are all read at once.
-pub(crate) const SHORT: usize = 12;
+const SHORT: usize = 18;
 
 // Whether a text is too near the end of what begins with it to be read as words.
 #[inline(always)]
@@ -30,7 +30,7 @@ fn is_near_end(held: Cell<'_>) -> bool
     held.ahead.len() - held.text.len() < ROOM_BEHIND
 }
 
-// Puts the number of what a cell holds into the row's place, where that is up to twelve digits alone or behind a minus, and
+// Puts the number of what a cell holds into the row's place, where that is up to eighteen digits alone or behind a minus, and
 // returns whether it did.
 #[inline(always)]
 fn put_digits<C: TableColumn>(target: &mut C, code: u8, row: usize, held: Cell<'_>) -> bool

@@ -7,21 +7,21 @@ use Rattle.lexical_tables.specs.Targets.{TargetView}
 use Rattle.lexical_tables.proofs.marked_rows.read_cells_at_once.Given as goal
 
 -- rows were read, and cells of the next one
-abbrev pub invariant-loop-row : goal.invariant-loop-row
-invariant-loop-row g l =
-    IsOnRow l.dialect l.separator (drop l.row.start l.text) l.row.left.text.now
-    × AreEnds l.dialect.has_quotes l.separator l.row.left.text.now l.row.left.marks
+abbrev pub invariant-loop-column : goal.invariant-loop-column
+invariant-loop-column g l =
+    IsOnRow l.dialect l.separator (drop l.start l.text) l.left.text.now
+    × AreEnds l.dialect.has_quotes l.separator l.left.text.now l.left.marks
     × AreCodes l.dialect l.codes (map g.C.TableColumn.target l.targets)
     × AreUsable (l.last + 1) (map g.C.TableColumn.target l.targets)
     × ((first : ℕ) (old : List (Option TargetView)) (rest : List ℕ)
     → GoesOn l.dialect (length l.text) first old rest (map g.C.TableColumn.target l.initial.targets) l.fn.from.index
     (drop l.fn.from.start l.text) l.fn.from.column l.fn.from.left.text.now
-    → GoesOn l.dialect (length l.text) first old rest (map g.C.TableColumn.target l.targets) l.row.index
-    (drop l.row.start l.text) l.row.column l.row.left.text.now)
-    × (l.row.column ≤ l.columns)
-    × (l.row.start < length l.text)
-    × (l.row.index ≤ l.last)
-    × (length l.row.left.text.now ≤ length l.fn.from.left.text.now)
+    → GoesOn l.dialect (length l.text) first old rest (map g.C.TableColumn.target l.targets) l.index
+    (drop l.start l.text) l.column l.left.text.now)
+    × (l.column ≤ l.columns)
+    × (l.start < length l.text)
+    × (l.index ≤ l.last)
+    × (length l.left.text.now ≤ length l.fn.from.left.text.now)
 
-abbrev pub decreases-loop-row : goal.decreases-loop-row
-decreases-loop-row g l = length l.row.left.text.now
+abbrev pub decreases-loop-column : goal.decreases-loop-column
+decreases-loop-column g l = length l.left.text.now
