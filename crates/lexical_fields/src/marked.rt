@@ -1,5 +1,6 @@
 // Fields of digits, where marks of the separators in front say where each ends.
-ghost use Rattle.std.specs.Prelude.{◌≡◌, ◌≢◌, ◌+◌, ◌<◌, ◌≤◌, ◌^◌, ℕ, List, IfSome, IsNone, IsTrue, Ok, length, take, drop};
+ghost use Rattle.std.specs.Prelude.{◌≡◌, ◌≢◌, ◌==◌, ◌+◌, ◌<◌, ◌≤◌, ◌^◌, ℕ, List, IfSome, IsNone, IsTrue, Ok, length, slice_index, take, drop};
+ghost use Rattle.lexical_util.specs.Ascii.{minus};
 ghost use Rattle.lexical_util.specs.Validity.{fault};
 ghost use Rattle.lexical_digits.specs.WrittenNumbers.{StandsFor, WritesDecimal};
 ghost use Rattle.lexical_parse_integer.specs.Grammar.{complete};
@@ -180,6 +181,7 @@ fn number_to_18(digits: &[u8], count: usize) -> Option<u64>
 pub fn number_of_front(text: &[u8], size: usize) -> Option<(bool, u64)>
     requires room { size + 17 ≤ length text.now }
     ensures writes { IfSome result (λ found. IsNumeral found.0 found.1 (take size text.now)) }
+    ensures sign { IfSome result (λ found. found.0 ≡ (slice_index text.now 0 == minus)) }
     ensures small { IfSome result (λ found. found.1 < 10 ^ 18) }
 {
     let is_negative = text[0] == b'-';

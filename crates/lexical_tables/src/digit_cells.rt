@@ -73,8 +73,24 @@ fn keeps_zero_rule(code: u8, ahead: &[u8], size: usize, is_negative: bool) -> bo
     ahead[first] != b'0' || size == first + 1
 }
 
-// Puts a number that was found of a text's first `size` bytes into a row's place, where the column's format and type have
-// it, and returns whether it did.
+// The number of a text's first `size` bytes with its sign, as `number_of_front` has it, if the digits keep the rule on zeros, where
+// the column's code has that rule.
+#[inline(always)]
+pub(crate) fn coded_number(code: u8, ahead: &[u8], size: usize) -> Option<(bool, u64)>
+    requires room { size + 17 ≤ length ahead.now }
+    ensures numeral { IfSome result (λ found. (format : Format)
+        → IsDecimal format (has_zero_rule code)
+        → IsNumeralUnder format found.0 found.1 (take size ahead.now)) }
+    ensures small { IfSome result (λ found. found.1 < 2 ^ 63) }
+{
+    if !keeps_zero_rule(code, ahead, size, ahead[0] == b'-') {
+        return None;
+    }
+    number_of_front(ahead, size)
+}
+
+// Puts a number with its sign, which a text's first `size` bytes write, into the row's place, where the column's type has it, and
+// returns whether it did.
 #[inline(always)]
 pub(crate) fn put_found<C: TableColumn>(
     target: &mut C,
@@ -87,8 +103,9 @@ pub(crate) fn put_found<C: TableColumn>(
     requires column { IsReadAs code (C.target target.old) }
     requires read { 8 ≤ code }
     requires usable { IsUsable (row + 1) (C.target target.old) }
-    requires room { size + 17 ≤ length ahead.now }
-    requires writes { IfSome found (λ found. IsNumeral found.0 found.1 (take size ahead.now)) }
+    requires numeral { IfSome found (λ found. (format : Format)
+        → IsDecimal format (has_zero_rule code)
+        → IsNumeralUnder format found.0 found.1 (take size ahead.now)) }
     requires small { IfSome found (λ found. found.1 < 2 ^ 63) }
     ensures put { IsTrue result
         → IsNumberPut code row (take size ahead.now) (C.target target.old) (C.target target.new) }
@@ -97,9 +114,6 @@ pub(crate) fn put_found<C: TableColumn>(
     let Some((is_negative, number)) = found else {
         return false;
     };
-    if !keeps_zero_rule(code, ahead, size, is_negative) {
-        return false;
-    }
     target.put_number(code, row, is_negative, number)
 }
 
@@ -172,5 +186,5 @@ pub(crate) fn read_coded<C: TableColumn, const HAS_QUOTES: bool, const HAS_CALLS
         return code == NOT_READ && shows_no_fault(ahead, size, HAS_QUOTES);
     }
     let (held, count) = within_quotes(ahead, size, HAS_QUOTES);
-    put_found(target, code, row, held, count, number_of_front(held, count))
+    put_found(target, code, row, held, count, coded_number(code, held, count))
 }

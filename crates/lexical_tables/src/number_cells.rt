@@ -9,10 +9,9 @@ ghost use Rattle.lexical_tables.specs.Targets.{has_numbers};
 use crate::answers::{CellFault, TableError};
 use crate::content::{Cell, content};
 use crate::dialect::Dialect;
-use crate::digit_cells::put_found;
+use crate::digit_cells::{coded_number, put_found};
 use crate::known_cells::had_at_once;
 use crate::targets::TableColumn;
-use lexical_fields::number_of_front;
 use lexical_parse_integer::Options;
 
 // How many bytes have to follow digits that are read as words.
@@ -46,7 +45,7 @@ fn put_digits<C: TableColumn>(target: &mut C, code: u8, row: usize, held: Cell<'
         return false;
     }
     let size = held.text.len();
-    let found = number_of_front(held.ahead, size);
+    let found = coded_number(code, held.ahead, size);
     put_found(target, code, row, held.ahead, size, found)
 }
 

@@ -1,6 +1,6 @@
 -- Numerals whose first digit is no zero, or their only one.
-use Rattle.std.proofs.Common.{◌≡◌, ◌≢◌, ◌∙◌, ℕ, ◌+◌, ◌<◌, ◌≤◌, ◌==◌, ◌&&◌, ◌⊎◌, Bool, true, false, not, List, ◌∷◌, length, length-take-le, take, get_or, ap, sym, arith, inl, inr}
-use Rattle.std.specs.Prelude.{if◌then◌else◌, nat_le}
+use Rattle.std.proofs.Common.{◌≡◌, ◌≢◌, ◌∙◌, ℕ, ◌+◌, ◌<◌, ◌≤◌, ◌==◌, ◌&&◌, ◌⊎◌, Bool, true, false, not, Option, None, Some, List, ◌∷◌, length, length-take-le, take, get_or, ap, sym, arith, inl, inr}
+use Rattle.std.specs.Prelude.{IfSome, if◌then◌else◌, nat_le}
 use Rattle.std.proofs.lemmas.Bool.{and_right, ne_eqb}
 use Rattle.std.proofs.lemmas.List.{get_or-take}
 use mir.Val.{bool_byte}
@@ -58,3 +58,9 @@ module _ (size start : ℕ) (text : List ℕ) (low : size ≤ length text) where
     numeral = n;
     rule = ap (λ t. not ((t && nat_le 2 (length n.digits)) && (get_or n.digits 0 0 == digit_zero))) unasked;
   }
+
+-- what follows from two clauses that say something of what was found
+pub if_both : {X : Type 0} {P Q R : X → Type 0} (found : Option X) → IfSome found P → IfSome found Q
+    → ((x : X) → P x → Q x → R x) → IfSome found R
+if_both None first second both = first
+if_both (Some x) first second both = both x first second
