@@ -229,8 +229,8 @@ def install(place: Place) -> str:
     if missing:
         raise Failed(f"not installed: {sorted(missing)}")
     refused = "! make -n install-lib PREFIX="
-    run(["sh", "-c", f"{refused}'~/x' && {refused} && {refused}'/x&y'"
-         f" && {refused}/x DESTDIR='/x`y`'"], cwd=TOP)
+    run(["sh", "-c", f"{refused}'~/x' && {refused} && {refused}'/x&y' && {refused}'/x\ny'"
+         f" && {refused}/x DESTDIR='/x`y`' && {refused}/x DESTDIR='/x\ny'"], cwd=TOP)
     return f"{sum(len(files) for _, _, files in os.walk(below))} files"
 
 
