@@ -339,11 +339,12 @@ PyObject *parse_table(PyObject *module, PyObject *const *args, Py_ssize_t count)
     return rows;
 }
 
-/* The code of the arrays of a type, or of that of a Fixed. */
-PyObject *array_code(PyObject *module, PyObject *given)
+PyObject *array_code(PyObject *module, PyObject *args)
 {
+    PyObject *given, *format = NULL;
     notation written;
-    if (notation_of(PyModule_GetState(module), given, NULL, &written) < 0)
+    if (!PyArg_ParseTuple(args, "O|O", &given, &format)
+        || notation_of(PyModule_GetState(module), given, format, &written) < 0)
         return NULL;
     const number_type *type = written.type;
     if (!type->array_code)
