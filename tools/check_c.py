@@ -292,16 +292,18 @@ def documents() -> str:
     whole = text_of("examples", "c", "ten_lines.c").partition("*/\n")[2]
     tested = text_of("tests", "c", "columns.c")
     loop = tested[tested.index("    size_t kept"):tested.index("    return 1;\n")]
+    amounts = text_of("tests", "c", "fixed.c")
+    shown = amounts[amounts.index("    uint64_t units"):amounts.index("    return strcmp")]
     manual = text_of("packaging", "jadvolni.3.in").replace("\\e", "\\")
     in_header = text_of("include", "jadvolni.h").replace("\n *     ", "\n    ")
     for name, text, example in (
         ("README.md", text_of("README.md"), f"```c\n{whole}```\n"),
         ("packaging/jadvolni.3.in", manual, whole), ("packaging/jadvolni.3.in", manual, loop),
-        ("include/jadvolni.h", in_header, loop),
+        ("include/jadvolni.h", in_header, loop), ("include/jadvolni.h", in_header, shown),
     ):
         if example not in text:
             raise Failed(f"{name} lacks this example:\n{example}")
-    return "4 examples"
+    return "5 examples"
 
 
 def man_pages() -> str:
