@@ -192,8 +192,10 @@ class Tables(unittest.TestCase):
         with self.assertRaisesRegex(ValueError, wanted):
             parse_table(TEXT, LEDGER, ";", True, out={})
         with memoryview(bytearray(17)) as view, view[1:].cast("q") as askew:
-            with self.assertRaisesRegex(ValueError, "out has to have aligned arrays"):
-                parse_table(b"1\n2\n", {"a": "i64"}, out={"a": askew})
+            for columns, text in ({"a": "i64"}, b"1\n2\n"), ({"x": None, "a": "i64"}, b",1\n,2\n"):
+                told = f"out has to have aligned arrays .* of column {len(columns)} isn't of i64$"
+                with self.assertRaisesRegex(ValueError, told):
+                    parse_table(text, columns, out={"a": askew})
             with view[1:1].cast("q") as empty:  # (as an array without items has it)
                 parse_table(b"", {"a": "i64"}, out={"a": empty})
 
