@@ -734,6 +734,12 @@ uint32_t jadvolni_fixed_error(const jadvolni_fixed *fixed) JADVOLNI_PURE_ JADVOL
  *     JADVOLNI_EMPTY          where a digit is missing: at the end of "12.", and, if all places are
  *                             required, at the end of "12.5"; with `_front` also before another byte.
  *
+ * A number is written back by its parts: 1250 is "12.50" again, and -5 is "-0.05".
+ *
+ *     uint64_t units = value < 0 ? 0 - (uint64_t)value : (uint64_t)value;
+ *     snprintf(shown, sizeof shown, "%s%" PRIu64 ".%02" PRIu64, value < 0 ? "-" : "", units / 100,
+ *              units % 100);
+ *
  * If fewer places are accepted, `_front` reads "12. And" as 1200, and stops at 2. So if more bytes may
  * come, a result before a point or separators that end the text isn't final either: "12." stops at 2, and
  * may continue as "12.5".
@@ -1037,7 +1043,8 @@ typedef struct jadvolni_table_result {
  * x for the last 0 it gives no row, and JADVOLNI_INVALID_DIGIT in column 2 at 14.
  *
  * CELLS OF GIVEN WIDTHS. Each column has a fixed number of bytes of a row. A row that ends before or
- * within a cell has too few cells, and the first byte after the last cell is one cell too many.
+ * within a cell has too few cells, and the first byte after the last cell is one cell too many. So lines
+ * whose last blanks were trimmed have to be padded first.
  *
  *     static const size_t widths[] = {3, 4, 6};
  *     jadvolni_table fixed = {.allows_blanks = 1, .widths = widths, .width_count = 3};

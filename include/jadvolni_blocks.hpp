@@ -63,8 +63,8 @@ public:
     // valid until the next block is read.
     std::string_view bytes() const noexcept { return text_.bytes; }
 
-    // What is wrong: a fault, with its column and its name, or, at status::ok, that the bytes have no room for a row or
-    // that reading has failed.
+    // What is wrong: a fault, with its column and its name, or, at status::ok, that the bytes or the arrays have no room
+    // for a row, or that reading has failed.
     using table_result::column, table_result::status, table_result::name;
     const char *message() const noexcept { return trouble_ ? trouble_ : table_result::message(); }
 
@@ -254,6 +254,7 @@ private:
             tried_ = stop_ - first_;
             is_over_ = is_last_ && first_ == stop_;
             if (is_over_) return false;
+            if (capacity_ == 0 && first_ != stop_) return hindered(without_capacity());
             if (auto trouble = is_last_ ? without_room() : fill()) return hindered(trouble);
         }
         return false;
@@ -291,7 +292,8 @@ private:
     // Where that is: at an unclosed quote, or where the row starts.
     std::size_t place_of(const char *trouble) const noexcept
     {
-        return before_ + first_ + (trouble == failed() ? 0 : ends_.open_quote().value_or(0));
+        const bool is_of_row = trouble != failed() && trouble != without_capacity();
+        return before_ + first_ + (is_of_row ? ends_.open_quote().value_or(0) : 0);
     }
 
     // Whether a row ends in the bytes that are left.
@@ -324,6 +326,7 @@ private:
     }
 
     static const char *failed() noexcept { return "reading has failed"; }
+    static const char *without_capacity() noexcept { return "the capacity is 0: there is room for no row"; }
     const char *without_room() noexcept
     {
         ends();

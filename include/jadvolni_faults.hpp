@@ -9,17 +9,21 @@ namespace jadvolni {
 
 namespace detail {
 
+// How many bytes the cells of a row have together, by their widths.
+inline std::size_t width_of(const table &how) noexcept
+{
+    std::size_t size = 0;
+    for (std::size_t column = 0; column < how.width_count; ++column)
+        size += std::min<std::size_t>(std::size_t(-1) - size, how.widths[column]);
+    return size;
+}
+
 // Whether a row ends in bytes that come little by little: each is looked at once.
 class row_ends {
 public:
     explicit row_ends(const table &how) noexcept : has_quotes_(how.has_quotes != 0)
     {
-        if (!how.is_records) return;
-        for (std::size_t column = 0; column < how.width_count; ++column) {
-            auto room = std::size_t(-1) - record_size_;
-            record_size_ += std::min<std::size_t>(room, how.widths[column]);
-        }
-        record_size_ = std::max<std::size_t>(record_size_, 1);
+        if (how.is_records) record_size_ = std::max<std::size_t>(width_of(how), 1);
     }
 
     // Begins another row.
@@ -65,6 +69,23 @@ inline std::string_view first_row(std::string_view text, const table &how) noexc
 {
     row_ends ends(how);
     return ends.ends_in(text.data(), text.size()) ? text.substr(0, ends.stop()) : text;
+}
+
+// Whether a row has no byte before its line end; of a record, whether it ends too early, and is only a line end.
+inline bool is_line_end(std::string_view row, const table &how) noexcept
+{
+    if (how.is_records && row.size() >= width_of(how)) return false;
+    return row == "\n" || (row == "\r\n" && (how.has_returns || how.allows_returns || how.is_records));
+}
+
+// How many bytes a row has before its line end. A record has none.
+inline std::size_t size_without_end(std::string_view row, const table &how) noexcept
+{
+    row_ends ends(how);
+    if (how.is_records || !ends.ends_in(row.data(), row.size())) return row.size();
+    const auto size = ends.stop() - 1;
+    const bool takes_return = how.has_returns || how.allows_returns;
+    return takes_return && size > 0 && row[size - 1] == '\r' ? size - 1 : size;
 }
 
 // Whether a row, with its line end, is an empty one that its table skips.
@@ -252,8 +273,14 @@ private:
         row_start_ = start;
         row_stop_ = start + row.size();
         is_record_ = how.is_records != 0;
-        if (has_place() && status() != status::too_few_cells && status() != status::missing_return)
+        if (!has_place()) return;
+        is_line_end_ = detail::is_line_end(row, how);
+        if (status() == status::too_few_cells) {
+            width_ = detail::width_of(how);
+            row_size_ = detail::size_without_end(row, how);
+        } else if (status() != status::missing_return) {
             put_cell(row, how);
+        }
     }
 
     // Stores the cell of a row that has the fault.
@@ -295,6 +322,21 @@ private:
             words_.put(place_in_cell_);
             words_.put(" of the cell");
         }
+        put_hint();
+    }
+
+    // What may have to be done about an empty row; and how much there is of a row that ends before its widths do.
+    void put_hint() noexcept
+    {
+        if (is_line_end_ && is_record_) return words_.put("; the row is only a line end, and records have none");
+        if (is_line_end_) return words_.put("; the row is empty: skips_empty_rows may have to be set");
+        if (width_ == 0) return;
+        words_.put("; the row has ");
+        words_.put(row_size_);
+        words_.put(" of the ");
+        words_.put(width_);
+        words_.put(" bytes of its widths");
+        if (!is_record_) words_.put(": pad it if its last blanks were trimmed");
     }
 
     // A message about a column begins with it, which distinguishes it from one about the table.
@@ -321,8 +363,10 @@ private:
     const char *message_;
     std::string_view name_;
     std::size_t row_ = 0, column_ = 0, line_ = 0, row_start_ = 0, row_stop_ = 0;
+    // Of a row with too few cells: how many bytes it has before its line end, and how many its widths have together.
+    std::size_t row_size_ = 0, width_ = 0;
     std::size_t cell_size_ = 0, shown_size_ = 0, place_in_cell_ = 0;
-    bool is_trouble_ = false, is_record_ = false, has_cell_ = false, is_cut_ = false;
+    bool is_trouble_ = false, is_record_ = false, is_line_end_ = false, has_cell_ = false, is_cut_ = false;
     char cell_[40] = {};
     detail::short_text<640> words_;
 };

@@ -229,8 +229,8 @@ def install(place: Place) -> str:
     if missing:
         raise Failed(f"not installed: {sorted(missing)}")
     refused = "! make -n install-lib PREFIX="
-    run(["sh", "-c", f"{refused}'~/x' && {refused} && {refused}'/x&y'"
-         f" && {refused}/x DESTDIR='/x`y`'"], cwd=TOP)
+    run(["sh", "-c", f"{refused}'~/x' && {refused} && {refused}'/x&y' && {refused}'/x\ny'"
+         f" && {refused}/x DESTDIR='/x`y`' && {refused}/x DESTDIR='/x\ny'"], cwd=TOP)
     return f"{sum(len(files) for _, _, files in os.walk(below))} files"
 
 
@@ -292,16 +292,18 @@ def documents() -> str:
     whole = text_of("examples", "c", "ten_lines.c").partition("*/\n")[2]
     tested = text_of("tests", "c", "columns.c")
     loop = tested[tested.index("    size_t kept"):tested.index("    return 1;\n")]
+    amounts = text_of("tests", "c", "fixed.c")
+    shown = amounts[amounts.index("    uint64_t units"):amounts.index("    return strcmp")]
     manual = text_of("packaging", "jadvolni.3.in").replace("\\e", "\\")
     in_header = text_of("include", "jadvolni.h").replace("\n *     ", "\n    ")
     for name, text, example in (
         ("README.md", text_of("README.md"), f"```c\n{whole}```\n"),
         ("packaging/jadvolni.3.in", manual, whole), ("packaging/jadvolni.3.in", manual, loop),
-        ("include/jadvolni.h", in_header, loop),
+        ("include/jadvolni.h", in_header, loop), ("include/jadvolni.h", in_header, shown),
     ):
         if example not in text:
             raise Failed(f"{name} lacks this example:\n{example}")
-    return "4 examples"
+    return "5 examples"
 
 
 def man_pages() -> str:

@@ -201,7 +201,8 @@ def with_bad_rows() -> Iterator[Case]:
                 'line 5: too few cells, none for "b"', "bad rows: 2")
     yield skips(b"a,b\n1,2\0\n\n3,\"4", "0",
                 r'line 2, "b": "2\x00": invalid digit at byte 1 of the cell',
-                'line 3: too few cells, none for "b"',
+                'line 3: too few cells, none for "b"; the row is empty: skips_empty_rows may have '
+                "to be set",
                 r'line 4, "b": "\"4": misplaced quote at byte 0 of the cell', "bad rows: 3")
     yield skips(b"b\n" + b"1\nx\n" * 300000, "300000",
                 *(f'line {2 * k + 3}, "b": "x": invalid digit at byte 0 of the cell'

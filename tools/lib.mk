@@ -78,12 +78,17 @@ TO = $(DESTDIR)$(LIBDIR)
 STRANGE := " ' ` \ | & $$ \#
 # Characters that a shell interprets within double quotes.
 READ := " ` \ $$
-has = $(strip $(foreach character,$(1),$(findstring $(character),$(2))))
+# A line feed ends a line of make's, and so a command.
+define LINE_FEED
+
+
+endef
+has = $(strip $(foreach character,$(1),$(findstring $(character),$(2)))$(if $(findstring $(LINE_FEED),$(2)),no))
 path = $(if $(if $(filter /%,$(firstword $($(1)))),$(call has,$(STRANGE),$($(1))),no), \
-    $(error $(1)=$($(1)): it has to begin with a slash, and to have none of $(STRANGE)))
+    $(error $(1)=$($(1)): it has to begin with a slash, and to have no line feed and none of $(STRANGE)))
 paths:
 	@: $(foreach name,PREFIX LIBDIR INCLUDEDIR MANDIR,$(call path,$(name)))
-	@: $(if $(call has,$(READ),$(DESTDIR)),$(error DESTDIR=$(DESTDIR): it has to have none of $(READ)))
+	@: $(if $(call has,$(READ),$(DESTDIR)),$(error DESTDIR=$(DESTDIR): it has to have no line feed and none of $(READ)))
 
 # Fills in the templates of pkg-config, CMake and man. Everyone may read the files.
 FILL = umask 022; sed -e 's|@PREFIX@|$(PREFIX)|; s|@LIBDIR@|$(LIBDIR)|; s|@INCLUDEDIR@|$(INCLUDEDIR)|' \

@@ -1,7 +1,7 @@
 // The errors of a table's bad rows.
 
 import { ParseError } from "./errors.js";
-import { endOfRow } from "./header.js";
+import { endOfRow, LINE_FEED } from "./header.js";
 import { ANSWER, answer } from "./layout.js";
 import { STATUSES } from "./lists.js";
 import { named, putBytes, TEXT } from "./memory.js";
@@ -14,6 +14,7 @@ const LONGEST_CHARACTER = 4;
 
 // Faults without a wrong cell.
 const WITHOUT_CELL = ["TooFewCells", "MissingReturn"];
+const RETURN = 0x0d;
 
 /** Where the wrong cell of a row is, and its first bytes: none where a cell or the return is missing. */
 function cellOf(bytes, kind, { place, cell }) {
@@ -45,6 +46,27 @@ function messageOf(kind, said, where, column, cell, place) {
   return kind === "TooManyCells" ? message : `${message} at byte ${place - cell.start} of the cell`;
 }
 
+/** How many bytes a row has before its line end. A record that is only a line end has none. */
+function sizeWithoutEnd(row, isOpen, { recordSize, has_returns, allows_returns }) {
+  const isRecord = recordSize !== undefined;
+  const isEnded = row.at(-1) === LINE_FEED && !isOpen;
+  const hasReturn = isEnded && (has_returns || allows_returns || isRecord) && row.at(-2) === RETURN;
+  const size = row.length - Number(isEnded) - Number(hasReturn);
+  return isRecord && size > 0 ? row.length : size;
+}
+
+/** What a message adds about a row that is empty, or that ends before its widths do. */
+function hintOf(kind, row, isOpen, how) {
+  const isRecord = how.recordSize !== undefined;
+  const size = sizeWithoutEnd(row, isOpen, how);
+  const width = how.widths.reduce((sum, it) => sum + it, 0n);
+  if (size === 0 && !isRecord) return "; the row is empty: skips_empty_rows may have to be true";
+  if (size === 0 && row.length < width) return "; the row is only a line end, and records have none";
+  if (kind !== "TooFewCells" || width === 0n) return "";
+  const padded = isRecord ? "" : ": pad it if its last blanks were trimmed";
+  return `; the row has ${size} of the ${width} bytes of its widths${padded}`;
+}
+
 /** Returns a function that makes the errors of bad rows, in their order. Places count from the first of these bytes. */
 export function errorsOfRows(bytes, how, names) {
   const linesBefore = lineCounter(bytes);
@@ -57,8 +79,10 @@ export function errorsOfRows(bytes, how, names) {
     const where = how.recordSize === undefined ? `line ${line + 1}` : `row ${row + 1}`;
     const shown = columnName === undefined ? `column ${column + 1}` : quoted(columnName);
     const text = frontOf(cell.front, MOST_SHOWN);
-    return new ParseError(messageOf(kind, said, where, shown, cell, place), kind, place, {
-      row, line, column, columnName, rowStart: start, rowStop: endOfRow(bytes, start, how).stop, text,
+    const { stop, open } = endOfRow(bytes, start, how);
+    const hint = hintOf(kind, bytes.subarray(start, stop), open !== undefined, how);
+    return new ParseError(messageOf(kind, said, where, shown, cell, place) + hint, kind, place, {
+      row, line, column, columnName, rowStart: start, rowStop: stop, text,
     });
   };
 }

@@ -93,7 +93,8 @@ export interface Table {
   /** What stands for a missing number in columns that may miss some, or for a missing text: all that a cell
    * holds, within its quotes if it has them, and for a number without its blanks. By default an empty cell. */
   missing?: Text;
-  /** How many bytes the cell of each column has. There are then no separators, and none may be given. */
+  /** How many bytes the cell of each column has. There are then no separators, and none may be given. A line
+   * whose last blanks were trimmed has too few cells: pad it. */
   widths?: readonly number[];
   /** A row is a record, of as many bytes as the sum of the widths, but at least one, and nothing separates
    * rows: a line feed at the end of a file belongs to a further record. Otherwise a row is a line. */

@@ -86,17 +86,57 @@ static void hostile_cells()
     CHECK(std::strlen(fault_of("1,a," + stray, commas()).what()) < 120);
 }
 
+// The words name the option that skips empty rows.
+static void empty_rows()
+{
+    const std::string hint = "; the row is empty: skips_empty_rows may have to be set";
+    auto lines = commas(), returns = commas(), skips = commas();
+    returns.has_returns = skips.skips_empty_rows = 1;
+    CHECK(says("1,a,2\n\n", lines, "line 2, column 1: \"\": missing digit at byte 0 of the cell" + hint));
+    CHECK(says("1,a,2\r\n\n", returns, "line 2, column 1: \"\": missing digit at byte 0 of the cell" + hint));
+    CHECK(says("1,a,2\r\n\r\n3,b,4", returns, "line 2, column 1: \"\": missing digit at byte 0 of the cell" + hint));
+    CHECK(says("1,a,2\n\n", skips, "no fault"));
+    CHECK(says("\r\n", lines, "line 1, column 1: \"\\r\": invalid digit at byte 0 of the cell"));
+    CHECK(says("\r", returns, "line 1, column 1: \"\\r\": invalid digit at byte 0 of the cell"));
+    static const std::size_t each[] = {2, 1, 3};
+    lines.widths = each, lines.width_count = 3;
+    CHECK(says("12a345\n\n", lines, "line 2: too few cells, none for column 1" + hint));
+    jadvolni::table_column unread[2] = {};
+    const std::string_view text = "a,b\n\n";
+    const table_fault few(jadvolni::parse_table(text, commas(), 9, unread), text, commas());
+    CHECK(few.what() == "line 2: too few cells, none for column 2" + hint && few.text().empty());
+    CHECK(few.named("b").what() == "line 2: too few cells, none for \"b\"" + hint);
+}
+
 static void widths()
 {
     static const std::size_t each[] = {2, 1, 3};
     auto lines = commas();
     lines.widths = each, lines.width_count = 3;
     CHECK(says("12a345\n1xb678\n", lines, "line 2, column 1: \"1x\": invalid digit at byte 1 of the cell"));
-    CHECK(says("12a3\n", lines, "line 1: too few cells, none for column 3"));
+    const std::string few = ": too few cells, none for column ", trimmed = ": pad it if its last blanks were trimmed";
+    CHECK(says("12a3\n", lines, "line 1" + few + "3; the row has 4 of the 6 bytes of its widths" + trimmed));
+    CHECK(says("12a345\n1", lines, "line 2" + few + "1; the row has 1 of the 6 bytes of its widths" + trimmed));
     CHECK(says("12a345bc\n", lines, "line 1, column 4: \"bc\": too many cells"));
     auto records = lines;
     records.is_records = 1;
     CHECK(says("12\n34512a3x5", records, "row 2, column 3: \"3x5\": invalid digit at byte 1 of the cell"));
+    CHECK(says("12a3451", records, "row 2" + few + "1; the row has 1 of the 6 bytes of its widths"));
+    records.skips_empty_rows = 1;
+    const std::string only = "; the row is only a line end, and records have none";
+    CHECK(says("12a345\n", records, "row 2" + few + "1" + only));
+    CHECK(says("12a345\r\n", records,
+               "row 2, column 1: \"\\r\\n\": invalid digit at byte 0 of the cell" + only));
+    static const std::size_t of_one[] = {0, 1, 0};
+    auto narrow = records;
+    narrow.widths = of_one;
+    CHECK(says("\n", narrow, "row 1, column 1: \"\": missing digit at byte 0 of the cell"));
+    for (const char *text : {"12a345\r\n12a \r\n", "12a345\r\n12a "}) {
+        lines.has_returns = 1;
+        CHECK(says(text, lines, "line 2" + few + "3; the row has 4 of the 6 bytes of its widths" + trimmed));
+    }
+    lines.has_quotes = 1;
+    CHECK(says("12a\"\n", lines, "line 2" + few + "3; the row has 5 of the 6 bytes of its widths" + trimmed));
     const auto fault = fault_of("12\n34512a3x5", records);
     CHECK(fault.line() == 1 && fault.row_start() == 6 && fault.row_stop() == 12);
 }
@@ -167,6 +207,7 @@ int main()
 {
     each_kind();
     hostile_cells();
+    empty_rows();
     widths();
     refused();
     another_text();

@@ -2,6 +2,8 @@
 #include "jadvolni.h"
 #include "check.h"
 
+#include <inttypes.h>
+
 /* Checks a call's result, and the number at its pointer, which was 77 before. */
 #define EXPECT(call, type, fixed, text, wanted_status, wanted_place, wanted_number) \
     do {                                                                            \
@@ -86,6 +88,27 @@ static void descriptions(void)
     EXPECT(jadvolni_parse_i64_fixed, int64_t, wrong, "1", JADVOLNI_UNKNOWN_FIELD, 0, 77);
 }
 
+/* Whether a number of cents is written back as this, and read again as that number. */
+static bool is_shown(int64_t value, const char *wanted)
+{
+    const jadvolni_fixed cents = {.places = 2};
+    int64_t again = 77;
+    char shown[24];
+    uint64_t units = value < 0 ? 0 - (uint64_t)value : (uint64_t)value;
+    snprintf(shown, sizeof shown, "%s%" PRIu64 ".%02" PRIu64, value < 0 ? "-" : "", units / 100,
+             units % 100);
+    return strcmp(shown, wanted) == 0
+        && jadvolni_parse_i64_fixed(shown, strlen(shown), &cents, &again).status == JADVOLNI_OK
+        && again == value;
+}
+
+static void written_back(void)
+{
+    CHECK(is_shown(1250, "12.50") && is_shown(-123450, "-1234.50") && is_shown(0, "0.00"));
+    CHECK(is_shown(5, "0.05") && is_shown(-5, "-0.05") && is_shown(-100, "-1.00"));
+    CHECK(is_shown(INT64_MAX, "92233720368547758.07") && is_shown(INT64_MIN, "-92233720368547758.08"));
+}
+
 static void lines(void)
 {
     const char text[] = "12\n34\n5x";
@@ -103,6 +126,7 @@ int main(void)
 {
     each_type();
     descriptions();
+    written_back();
     lines();
     return checked();
 }

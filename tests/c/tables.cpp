@@ -98,7 +98,12 @@ static void tables_in_blocks()
     CHECK(in_table_blocks({rows, 99, never}, 13, 9) == "a row has no room 0 0 0\n");
     CHECK(in_table_blocks({"1;;2\n\n33;;4\n", 1, never}, 5, 9) == "1 2\na row has no room 1 0 6\n");
     CHECK(in_table_blocks({rows, 99, never}, 0, 9) == "a row has no room 0 0 0\n");
-    CHECK(in_table_blocks({rows, 99, never}, 40, 0) == "a row has no room 0 0 0\n");
+    const std::string none = "the capacity is 0: there is room for no row 0 0 ";
+    for (std::size_t step : {1u, 99u}) {
+        CHECK(in_table_blocks({rows, step, never}, 40, 0) == none + "0\n");
+        CHECK(in_table_blocks({"\n\n1;;2\n", step, never}, 40, 0) == none + "2\n");
+        CHECK(in_table_blocks({"\n\n", step, never}, 40, 0).empty());
+    }
     // It is a range of the standard library.
     std::vector<char> bytes(20);
     std::vector<jadvolni::table_column> unread(3);

@@ -306,6 +306,10 @@ static void literals()
     };
     CHECK(has("0xFFull;", jadvolni::formats::c, 255, "ull", 7));
     CHECK(has("1'0z", jadvolni::formats::cpp14, 10, "z", 4));
+    // (two separators don't continue a number in C++: an empty character constant follows, which is an error)
+    CHECK(has("1''0", jadvolni::formats::cpp14, 1, "", 1));
+    const auto twice = jadvolni::parse<int>("1''0", jadvolni::formats::cpp14);
+    CHECK(!twice && twice.status() == status::invalid_digit && twice.place() == 1);
     CHECK(has("1_000i64", jadvolni::formats::rust, 1000, "i64", 8));
     CHECK(has("1", jadvolni::formats::rust, 1, "", 1));
     auto none = jadvolni::parse_literal(std::string_view(), jadvolni::formats::c);

@@ -72,12 +72,67 @@ test("records", () => {
     "row 2: too few cells, none for column 2");
 });
 
+// What a message adds about a line that ends before its widths do.
+const PADDED = ": pad it if its last blanks were trimmed";
+
+test("the message names the option that skips empty rows", () => {
+  const hint = "; the row is empty: skips_empty_rows may have to be true";
+  const texts = ["text", null];
+  const few = `line 2: too few cells, none for column 2${hint}`;
+  const wrong = [
+    ["x,1\n\n", texts, {}, few],
+    ["x,1\n\nx,1\n", texts, {}, few],
+    ["x,1\r\n\r\n", texts, { allows_returns: true }, few],
+    ["x,1\r\n\n", texts, { has_returns: true }, few],
+    ['x,1\n\n"x",1', texts, { has_quotes: true }, few],
+    ["010\r\n\n", ["text"], { has_returns: true }, `line 2: missing carriage return${hint}`],
+    ["01002\n\n", TWO, { widths: [2, 3] }, `line 2: too few cells, none for column 1${hint}`],
+    ["1,2\n\n\n", TWO, {}, `line 2, column 1: "": missing digit at byte 0 of the cell${hint}`],
+    ["1,2\n\r\n", TWO, {}, 'line 2, column 1: "\\r": invalid digit at byte 0 of the cell'],
+    ["1,2\r\n\r", TWO, { has_returns: true }, 'line 2, column 1: "\\r": invalid digit at byte 0 of the cell'],
+  ];
+  for (const [text, columns, table, message] of wrong) checkFault(text, columns, table, { row: 1 }, message);
+});
+
+test("rows that end before their widths", () => {
+  const texts = ["text", "text"];
+  const records = { is_records: true };
+  const wrong = [
+    ["abcdefg\nab\n", {}, 0, 2, PADDED],
+    ["abcdefg\nabcdef", {}, 1, 6, PADDED],
+    ["abcdefg\nab \r\n", { allows_returns: true }, 1, 3, PADDED],
+    ["abcdefg\r\nab\r\n", { has_returns: true }, 0, 2, PADDED],
+    ["abcdefg\nab\r\n", {}, 1, 3, PADDED],
+    ['abcdefg\nabc"\n', { has_quotes: true }, 1, 5, PADDED],
+    ["abcdefgab", records, 0, 2, ""],
+    ["abcdefgab\r\n", { ...records, has_returns: true }, 1, 4, ""],
+  ];
+  for (const [text, table, column, size, more] of wrong) {
+    // (a quote that isn't closed takes a line feed into its row, which ends in line 3)
+    const where = table.is_records ? "row 2" : `line ${table.has_quotes ? 3 : 2}`;
+    const few = `${where}: too few cells, none for column ${column + 1}`;
+    checkFault(text, texts, { ...table, widths: [3, 4] }, { row: 1, column },
+      `${few}; the row has ${size} of the 7 bytes of its widths${more}`);
+  }
+  for (const end of ["\n", "\r\n"]) {
+    checkFault(`abcdefg${end}`, texts, { ...records, widths: [3, 4], skips_empty_rows: true }, { row: 1, column: 0 },
+      "row 2: too few cells, none for column 1; the row is only a line end, and records have none");
+  }
+});
+
+test("a record that is only a line end", () => {
+  const told = 'row 2, column 1: "\\n": invalid digit at byte 0 of the cell';
+  checkFault("12a\n", ["u8", null], { widths: [1, 2], is_records: true }, { row: 1 },
+    `${told}; the row is only a line end, and records have none`);
+  checkFault("1\n", ["u8"], { widths: [1], is_records: true }, { row: 1 }, told);
+});
+
 test("widths", () => {
   const table = { widths: [2, 3] };
   const wrong = [
     ["01002\n1x003\n", 1, 0, 7, "1x", 'line 2, column 1: "1x": invalid digit at byte 1 of the cell'],
     ["01999\n", 0, 1, 4, "999", 'line 1, column 2: "999": overflow at byte 2 of the cell'],
-    ["010\n", 0, 1, 3, "", "line 1: too few cells, none for column 2"],
+    ["010\n", 0, 1, 3, "", `line 1: too few cells, none for column 2; the row has 3 of the 5 bytes of its widths${PADDED}`],
     ["01002xyz\n", 0, 2, 5, "xyz", 'line 1, column 3: "xyz": too many cells'],
   ];
   for (const [text, row, column, place, cell, message] of wrong) {

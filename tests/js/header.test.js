@@ -42,7 +42,8 @@ test("what is no header", () => {
   assert.equal(names('a,b"c"\n', quoted), 'line 1, column 2: "b\\"c\\"": misplaced quote at byte 1 of the cell');
   assert.equal(names('\ufeffa,b""\n', quoted), 'line 1, column 2: "b\\"\\"": misplaced quote at byte 1 of the cell');
   assert.equal(names("a,b\n", { has_returns: true }), "line 1: missing carriage return");
-  assert.equal(names("ab\n", { widths: [2, 1] }), "line 1: too few cells, none for column 2");
+  assert.equal(names("ab\n", { widths: [2, 1] }), "line 1: too few cells, none for column 2; the row has 2 of the 3 "
+    + "bytes of its widths: pad it if its last blanks were trimmed");
   assert.equal(names("abcd\n", { widths: [2, 1] }), 'line 1, column 3: "d": too many cells');
   const long = "x".repeat(LONGEST_ROW + 1);
   assert.equal(names(`${long},a\n`), `the header has more than ${LONGEST_ROW} bytes`);
@@ -87,7 +88,9 @@ test("headers that are hostile", () => {
   assert.deepEqual(names("\n\nab", { skips_empty_rows: true, widths: [0, 2] }), ["", "ab"]);
   assert.equal(names(",".repeat(3_000_000)), "3000001 columns are more than there is memory for");
   assert.equal(names("a\n", { missing: "x".repeat(34_000_000) }), "the table is more than there is memory for");
-  assert.equal(names("a\n", { widths: [Number.MAX_SAFE_INTEGER] }), "line 1: too few cells, none for column 1");
+  const widths = [Number.MAX_SAFE_INTEGER];
+  assert.equal(names("a\n", { widths }), "line 1: too few cells, none for column 1; the row has 1 of the "
+    + `${widths[0]} bytes of its widths: pad it if its last blanks were trimmed`);
   const shared = new Uint8Array(new SharedArrayBuffer(8));
   shared.set(Buffer.from("a,b\n1,x\n"));
   assert.throws(() => parseTable(shared, { b: "u8" }, { header: true }), { columnName: "b", text: "x", row: 0 });

@@ -226,7 +226,7 @@ static PyMethodDef METHODS[] = {
     {"_arrow_stream", arrow_stream_of, METH_VARARGS, "A table for Arrow, as a stream of one."},
     {"_row_count", row_count, METH_VARARGS, "How many rows a text has at most."},
     {"_row_stops", row_stops, METH_VARARGS, "Where the parts of a text stop, about this many, each with a row."},
-    {"_array_code", array_code, METH_O, "The code of the arrays of a type."},
+    {"_array_code", array_code, METH_VARARGS, "The code of the arrays of a type, where a format goes with it."},
     {"_check_format", check_format, METH_O, "Raises FormatError where a format is invalid."},
     {"_check_fixed", check_fixed, METH_O, "Raises FormatError where a Fixed is invalid."},
     {"_lines", lines_in, METH_VARARGS, "How many line feeds stand between two places."},

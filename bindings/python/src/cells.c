@@ -25,12 +25,22 @@ static stretch cell_of(const char *text, const jadvolni_bad_row *bad, const jadv
     return (stretch){start, start + (cell.size < MOST_SHOWN + 1 ? cell.size : MOST_SHOWN + 1)};
 }
 
-/* Where a row stops, without the empty ones that are skipped behind it: with a block they may not have come. */
-static size_t row_stop(const char *text, const jadvolni_bad_row *bad, const jadvolni_table *table)
+/* How many bytes a line has up to behind its line feed, and 0 where none ends it, as of a record. */
+static size_t line_end(const char *text, const jadvolni_bad_row *bad, const jadvolni_table *table)
 {
     size_t len = bad->stop - bad->start;
-    size_t end = table->is_records ? 0 : row_end(text + bad->start, len, 0, table->has_quotes);
-    return end ? bad->start + end : bad->stop;
+    return table->is_records ? 0 : row_end(text + bad->start, len, 0, table->has_quotes);
+}
+
+/* How many bytes a row has before its end. A record that is a line end alone has none. */
+static size_t row_size(const char *text, const jadvolni_bad_row *bad, const jadvolni_table *table, size_t end)
+{
+    const char *row = text + bad->start;
+    size_t size = end ? end - 1 : bad->stop - bad->start;
+    if (table->is_records)
+        return (size == 1 && row[0] == '\n') || (size == 2 && memcmp(row, "\r\n", 2) == 0) ? 0 : size;
+    int takes_return = end && (table->has_returns || table->allows_returns);
+    return takes_return && size && row[size - 1] == '\r' ? size - 1 : size;
 }
 
 /* A bad row around its place, also where another thread has changed the text against the rules. */
@@ -43,19 +53,22 @@ static jadvolni_bad_row around_place(jadvolni_bad_row bad, size_t len)
     return bad;
 }
 
-/* What is known of a bad row. */
+/* What is known of a bad row. It stops before the empty ones that are skipped: with a block they may not have
+ * come. */
 static PyObject *fault_of(jadvolni_bad_row bad, const borrowed_text *part, size_t before,
                           const jadvolni_table *table)
 {
     bad = around_place(bad, part->len);
     stretch cell = cell_of(part->bytes, &bad, table);
-    return Py_BuildValue("(ssnnnnnny#)", jadvolni_status_name(bad.status),
+    size_t end = line_end(part->bytes, &bad, table);
+    return Py_BuildValue("(ssnnnnnny#n)", jadvolni_status_name(bad.status),
                          jadvolni_status_text(bad.status), (Py_ssize_t)bad.row,
                          (Py_ssize_t)bad.column, (Py_ssize_t)(before + bad.place),
                          (Py_ssize_t)(before + bad.start),
-                         (Py_ssize_t)(before + row_stop(part->bytes, &bad, table)),
+                         (Py_ssize_t)(before + (end ? bad.start + end : bad.stop)),
                          (Py_ssize_t)(before + cell.start), part->bytes + cell.start,
-                         (Py_ssize_t)(cell.stop - cell.start));
+                         (Py_ssize_t)(cell.stop - cell.start),
+                         (Py_ssize_t)row_size(part->bytes, &bad, table, end));
 }
 
 PyObject *faults_of(const jadvolni_bad_row *bad, size_t count, const borrowed_text *part, size_t before,

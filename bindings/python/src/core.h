@@ -173,7 +173,9 @@ PyObject *number_within(const core_state *state, const borrowed_text *text, cons
  * 0 reports none; otherwise all are, since reading stops after that number. */
 PyObject *parse_table(PyObject *module, PyObject *const *args, Py_ssize_t count);
 
-PyObject *array_code(PyObject *module, PyObject *given);
+/* The code of the arrays of a type, or of that of a Fixed, where a format goes with it: _array_code(type,
+ * format=None). */
+PyObject *array_code(PyObject *module, PyObject *args);
 
 /* ---- rows.c ---- */
 
@@ -214,8 +216,8 @@ PyObject *row_stops(PyObject *module, PyObject *args);
 /* ---- cells.c ---- */
 
 /* What is known of bad rows of a text, whose first bytes stand before the part that was read: a tuple for
- * each, of its kind, message, number among the rows that were read, column, place, start, stop, and the start
- * and the first bytes of its wrong cell. */
+ * each, of its kind, message, number among the rows that were read, column, place, start, stop, the start and
+ * the first bytes of its wrong cell, and how many bytes it has before its end. */
 PyObject *faults_of(const jadvolni_bad_row *bad, size_t count, const borrowed_text *part, size_t before,
                     const jadvolni_table *table);
 

@@ -55,17 +55,17 @@ static int has_type(const Py_buffer *room, const number_type *type)
         && (room->len == 0 || (uintptr_t)room->buf % type->size == 0);
 }
 
-/* Borrows an array of a type, to be written. -1 with an exception. */
-static int lend(PyObject *values, const number_type *type, Py_buffer *room)
+/* Borrows an array of a type for a column, to be written. -1 with an exception. */
+static int lend(PyObject *values, const number_type *type, Py_buffer *room, Py_ssize_t index)
 {
     if (PyObject_GetBuffer(values, room, PyBUF_WRITABLE | PyBUF_ND | PyBUF_FORMAT) < 0)
         return -1;
     if (has_type(room, type))
         return 0;
     PyErr_Format(PyExc_ValueError,
-                 "out has to have aligned arrays of the columns' types, and of u8 for bits: one isn't "
-                 "of %s",
-                 type->name);
+                 "out has to have aligned arrays of the columns' types, and of u8 for bits: one of "
+                 "column %zd isn't of %s",
+                 index + 1, type->name);
     return -1;
 }
 
@@ -113,7 +113,7 @@ static int numbers_of(const core_state *state, PyObject *values, PyObject *kind,
         return -1;
     const number_type *type = written.type;
     write_notation(&written, column);
-    if (lend(values, type, room) < 0)
+    if (lend(values, type, room, index) < 0)
         return -1;
     size_t count = (size_t)room->len / type->size, at = all->at < count ? all->at : count;
     array it = {(char *)room->buf + at * type->size, count - at};
@@ -130,7 +130,7 @@ static int texts_of(PyObject *sizes, PyObject *bytes, columns *all, Py_ssize_t i
         raise_type("the bytes of texts", "a bytearray", bytes, "");
         return -1;
     }
-    if (lend(sizes, type_of(NULL), room) < 0)
+    if (lend(sizes, type_of(NULL), room, index) < 0)
         return -1;
     size_t count = (size_t)room->len / sizeof *texts->sizes;
     if (count < all->at || count - all->at < all->capacity) {
@@ -159,7 +159,7 @@ static int column_of(const core_state *state, PyObject *given, columns *all, Py_
                                 : texts_of(values, bytes, all, index);
     if (made < 0 || bits == Py_None)
         return made;
-    return lend(bits, &BITS, &all->rooms[2 * index + 1]) < 0 ? -1 : bits_of(all, index);
+    return lend(bits, &BITS, &all->rooms[2 * index + 1], index) < 0 ? -1 : bits_of(all, index);
 }
 
 /* The columns of a tuple, of which None isn't read. -1 with an exception. */
@@ -339,11 +339,12 @@ PyObject *parse_table(PyObject *module, PyObject *const *args, Py_ssize_t count)
     return rows;
 }
 
-/* The code of the arrays of a type, or of that of a Fixed. */
-PyObject *array_code(PyObject *module, PyObject *given)
+PyObject *array_code(PyObject *module, PyObject *args)
 {
+    PyObject *given, *format = NULL;
     notation written;
-    if (notation_of(PyModule_GetState(module), given, NULL, &written) < 0)
+    if (!PyArg_ParseTuple(args, "O|O", &given, &format)
+        || notation_of(PyModule_GetState(module), given, format, &written) < 0)
         return NULL;
     const number_type *type = written.type;
     if (!type->array_code)

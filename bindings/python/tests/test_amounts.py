@@ -108,7 +108,7 @@ class Amounts(unittest.TestCase):
         table = parse_table(TEXT, LEDGER, ";", out=out)
         self.assertEqual((list(table["amount"]), list(out["amount"])),
                          ([-123450, 5, 700], [-123450, 5, 700, 9]))
-        with self.assertRaisesRegex(ValueError, "one isn't of i64"):
+        with self.assertRaisesRegex(ValueError, "of column 3 isn't of i64"):
             parse_table(TEXT, LEDGER, ";", out={**out, "amount": array("i", [9] * 4)})
 
     def test_skipped_rows_with_threads_and_blocks(self):

@@ -225,7 +225,7 @@ class Skipping(unittest.TestCase):
             self.assertEqual([str(it) for it in bad], [
                 'row 3, "b": "x": invalid digit at byte 0 of the cell',
                 r'row 5, "a": "\n": invalid digit at byte 0 of the cell',
-                'row 7: too few cells, none for "b"',
+                'row 7: too few cells, none for "b"; the row has 1 of the 2 bytes of its widths',
             ])
 
     def test_who_is_told(self):

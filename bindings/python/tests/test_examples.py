@@ -25,6 +25,9 @@ CONTENTS = ("a 1\nb 2\n", "  7rent     1  8food     2", "n,c\na,1\nb,2\n", "1\n2
 SAID = ("3\n", "3\n", "c 3, bad rows: 0\n", "2 numbers, sum 3\n", "2 numbers, sum 3\n",
         "2 rows\n")
 
+# What a message says of an empty row.
+EMPTY = "; the row is empty: skips_empty_rows may have to be True"
+
 
 def answer_of(name, path, *words, **settings):
     """What an example says of a path: its status, its output and its errors, without the path."""
@@ -108,14 +111,15 @@ class Ledger(Case):
             (b"rent 1\r\nfood 2\r\n", r'line 1, "cents": "1\r": invalid digit at byte 1'),
             (b"rent 1\rfood 2", r'line 1, "cents": "1\rfood": invalid digit at byte 1'),
             (b"rent 1\0002\n", r'line 1, "cents": "1\x002": invalid digit at byte 1'),
-            (b"\n", 'line 1: too few cells, none for "cents"'),
-            (b"a 1\n\n", 'line 2: too few cells, none for "cents"'),
+            (b"\n", f'line 1: too few cells, none for "cents"{EMPTY}'),
+            (b"a 1\n\n", f'line 2: too few cells, none for "cents"{EMPTY}'),
             (b"a 1\nb ", 'line 2, "cents": "": missing digit at byte 0'),
             (b"two words 7\n", 'line 1, "cents": "words": invalid digit at byte 0'),
             (b"a 9223372036854775808",
              'line 1, "cents": "9223372036854775808": overflow at byte 18'),
             (b"a 1\n" * 500_000 + b"b x", 'line 500001, "cents": "x": invalid digit at byte 0'),
-            (b"a 1\n" + b"b" * 3_000_000, "the row at byte 4 has more than 1048576 bytes"),
+            (b"a 1\n" + b"b" * 3_000_000,
+             "the row at byte 4 has more than 1048576 bytes; size may have to be larger"),
         ):
             with self.subTest(content=content[:40]):
                 self.assertEqual(self.answer("ledger.py", content), (1, "", line_of(told)))
@@ -138,13 +142,16 @@ class Records(Case):
     def test_wrong_files(self):
         record = b"365rent-80000"
         for content, told in (
-            (record + b"\n", 'row 2: too few cells, none for "day"'),
-            (record + record[:12], 'row 2: too few cells, none for "cents"'),
+            (record + b"\n", 'row 2: too few cells, none for "day"; the row is only a line end, '
+             "and records have none"),
+            (record + record[:12], 'row 2: too few cells, none for "cents"; the row has 12 of the '
+             "13 bytes of its widths"),
             (record + b"\n" + record, r'row 2, "day": "\n36": invalid digit at byte 0'),
             (b"365rent-8000x", 'row 1, "cents": "-8000x": invalid digit at byte 5'),
             (b"365rent-8\n000", r'row 1, "cents": "-8\n000": invalid digit at byte 2'),
             (b"365rent      ", 'row 1, "cents": "      ": missing digit at byte 6'),
-            (record * 500_000 + record[:5], 'row 500001: too few cells, none for "what"'),
+            (record * 500_000 + record[:5], 'row 500001: too few cells, none for "what"; the row '
+             "has 5 of the 13 bytes of its widths"),
         ):
             with self.subTest(content=content[:40]):
                 self.assertEqual(self.answer("records.py", content), (1, "", line_of(told)))
@@ -315,7 +322,8 @@ class Total(Case):
         self.assertEqual(self.answer("total.py", lines + b"1\n2x"),
                          (1, "", "line 500002, byte 3000003: InvalidDigit\n"))
         self.assertEqual(self.answer("total.py", b"1\n" + b"0" * 3_000_000),
-                         (1, "", "the field at byte 2 has more than 1048576 bytes\n"))
+                         (1, "", "the field at byte 2 has more than 1048576 bytes; size may have to"
+                          " be larger\n"))
 
     @unittest.skipUnless(importlib.util.find_spec("tqdm"), "there is no tqdm")
     def test_the_bar_of_a_slow_file(self):

@@ -10,7 +10,7 @@ import sys
 import tempfile
 import unittest
 
-from jadvolni import Column, ParseError, iter_table, line_column, parse_table, read_table
+from jadvolni import Column, ParseError, Text, iter_table, line_column, parse_table, read_table
 
 BANK = b"date,amount\n1,5\n2,6\n3,7\n4,12x5\n"
 COLUMNS = {"date": "u8", "amount": "i64"}
@@ -90,13 +90,77 @@ class Attributes(unittest.TestCase):
             (b"01002\n1x003\n", 1, 0, 7, b"1x",
              'line 2, "a": "1x": invalid digit at byte 1 of the cell'),
             (b"01999\n", 0, 1, 4, b"999", 'line 1, "b": "999": overflow at byte 2 of the cell'),
-            (b"010\n", 0, 1, 3, b"", 'line 1: too few cells, none for "b"'),
+            (b"010\n", 0, 1, 3, b"", 'line 1: too few cells, none for "b"; the row has 3 of the 5 '
+             "bytes of its widths: pad it if its last blanks were trimmed"),
             (b"01002xyz\n", 0, 2, 5, b"xyz", 'line 1, column 3: "xyz": too many cells'),
         ):
             error = self.told(text, columns, {
                 "row": row, "column": column, "place": place, "text": shown,
             }, widths=widths)
             self.assertEqual(str(error), message)
+
+    def test_empty_rows(self):
+        """The message names the option that skips them."""
+        hint = "; the row is empty: skips_empty_rows may have to be True"
+        texts, widths = {"a": Text(), "b": None}, {"widths": [2, 3]}
+        for text, columns, given, message in (
+            (b"x,1\n\n", texts, {}, 'too few cells, none for "b"'),
+            (b"x,1\n\nx,1\n", texts, {}, 'too few cells, none for "b"'),
+            (b"x,1\r\n\r\n", texts, {"allows_returns": True}, 'too few cells, none for "b"'),
+            (b"x,1\r\n\n", texts, {"has_returns": True}, 'too few cells, none for "b"'),
+            (b'x,1\n\n"x",1', texts, {"has_quotes": True}, 'too few cells, none for "b"'),
+            (b"010\r\n\n", {"a": Text()}, {"has_returns": True}, "missing carriage return"),
+            (b"01002\n\n", COLUMNS, widths, 'too few cells, none for "date"'),
+            (b"01002\r\n\r\n", COLUMNS, {"has_returns": True, **widths},
+             'too few cells, none for "date"'),
+        ):
+            with self.subTest(text=text):
+                error = self.told(text, columns, {"row": 1, "line": 1}, **given)
+                self.assertEqual(str(error), f"line 2: {message}{hint}")
+                parse_table(text, columns, skips_empty_rows=True, **given)
+        error = self.told(b"1,2\n\n\n", COLUMNS, {"row": 1, "row_start": 4, "row_stop": 5})
+        self.assertEqual(str(error),
+                         f'line 2, "date": "": missing digit at byte 0 of the cell{hint}')
+        for text in b"1,2\n\r\n", b"1,2\n \n", b"1,2\n\r":
+            self.assertNotIn("empty", str(fault_of(parse_table, text, COLUMNS)))
+        said = str(fault_of(parse_table, b"\r", COLUMNS, has_returns=True))
+        self.assertEqual(said, r'line 1, "date": "\r": invalid digit at byte 0 of the cell')
+
+    def test_rows_that_end_before_their_widths(self):
+        """The message says how many bytes are there, and what may have to be done."""
+        columns, widths = {"a": Text(), "b": Text()}, [3, 4]
+        trimmed = ": pad it if its last blanks were trimmed"
+        for text, given, name, size, more in (
+            (b"abcdefg\nab\n", {}, "a", 2, trimmed),
+            (b"abcdefg\nabcdef", {}, "b", 6, trimmed),
+            (b"abcdefg\nab \r\n", {"allows_returns": True}, "b", 3, trimmed),
+            (b"abcdefg\r\nab\r\n", {"has_returns": True}, "a", 2, trimmed),
+            (b"abcdefg\nab\r\n", {}, "b", 3, trimmed),
+            (b'abcdefg\n"a"\n', {"has_quotes": True}, "b", 3, trimmed),
+            (b'abcdefg\nabc"\n', {"has_quotes": True}, "b", 5, trimmed),
+            (b"abcdefgab", {"is_records": True}, "a", 2, ""),
+            (b"abcdefgab\r\n", {"is_records": True, "has_returns": True}, "b", 4, ""),
+        ):
+            with self.subTest(text=text):
+                error = self.told(text, columns, {"row": 1, "name": name}, widths=widths, **given)
+                where = "row 2" if "is_records" in given else f"line {error.line + 1}"
+                self.assertEqual(str(error), f'{where}: too few cells, none for "{name}"; the row '
+                                             f"has {size} of the 7 bytes of its widths{more}")
+        for end in b"\n", b"\r\n":
+            error = self.told(b"abcdefg" + end, columns, {"row": 1, "column": 0}, widths=widths,
+                              is_records=True, skips_empty_rows=True)
+            self.assertEqual(str(error), 'row 2: too few cells, none for "a"; the row is only a '
+                                         "line end, and records have none")
+        numbers = {"a": "u8", "b": None}
+        error = self.told(b"12a\n", numbers, {"row": 1}, widths=[1, 2], is_records=True)
+        self.assertEqual(str(error), r'row 2, "a": "\n": invalid digit at byte 0 of the cell; the '
+                                     "row is only a line end, and records have none")
+        error = self.told(b"1\n", {"a": "u8"}, {"row": 1}, widths=[1], is_records=True)
+        self.assertEqual(str(error), r'row 2, "a": "\n": invalid digit at byte 0 of the cell')
+        huge = str(fault_of(parse_table, b"ab", columns, widths=[1, sys.maxsize]))
+        self.assertIn(f"the row has 2 of the {2**63} bytes", huge)
+        compressed = str(fault_of(parse_table, b"\x1f\x8b", columns, widths=widths))
+        self.assertNotIn("bytes of its widths", compressed)
 
     def test_what_is_wrong_with_rows(self):
         for text, given, column, name, shown, message in (

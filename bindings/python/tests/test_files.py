@@ -257,9 +257,10 @@ class Files(unittest.TestCase):
         with self.assertRaises(ValueError) as told:
             list(iter_table(io.BytesIO(text), COLUMNS, **QUOTED, size=20))
         self.assertEqual(str(told.exception), "the row at byte 8 has more than 20 bytes: the quote"
-                         " at byte 13 may lack the one that closes it")
+                         " at byte 13 may lack the one that closes it, or size may have to be"
+                         " larger")
         for given in {}, QUOTED:
-            with self.assertRaisesRegex(ValueError, "the row at byte 6 has more than 9 bytes$"):
+            with self.assertRaisesRegex(ValueError, "the row at byte 6 has more than 9 bytes; si"):
                 list(iter_table(io.BytesIO(b"1,x,2\n" + b"1" * 20), COLUMNS, **given, size=9))
         self.assertEqual(read_table(io.BytesIO(b"1,x,2\n" + b"0" * 20 + b",,7"), COLUMNS,
                                     size=9)["c"].tolist(), [2, 7])

@@ -230,9 +230,11 @@ class Names(unittest.TestCase):
                          20_000)
         self.assertEqual(test_tables.lists(parse_table(text, columns, header=True)),
                          {"name 19999": [19999], "name 7": [7]})
-        with self.assertRaisesRegex(ValueError, "^the header has more than 99 bytes$"):
+        with self.assertRaisesRegex(ValueError, "^the header has more than 99 bytes; size may"
+                                    " have to be larger$"):
             next(iter_table(io.BytesIO(text), columns, header=True, size=99))
-        with self.assertRaisesRegex(ValueError, "more than 9 bytes: the quote at byte 2 may lack"):
+        with self.assertRaisesRegex(ValueError, "more than 9 bytes: the quote at byte 2 may lack"
+                                    " the one that closes it, or size may have to be larger$"):
             next(iter_table(io.BytesIO(b'a,"b\n1,2\n3,4\n'), {"a": "u8"}, header=True, size=9,
                             has_quotes=True))
         self.assertEqual(test_tables.lists(parse_table(
@@ -261,7 +263,8 @@ class Names(unittest.TestCase):
     def test_wrong_widths(self):
         text = b"id day  amount\n 12x    -100  \n"
         for widths, told in (
-            ([3, 5, 7], "the header has 14 bytes, and the widths have 15"),
+            ([3, 5, 7], "the header has 14 bytes, and the widths have 15: pad it if its last blanks"
+             " were trimmed"),
             ([3, 5], "the header has 14 bytes, and the widths have 8"),
             ([], "the header has 14 bytes, and the widths have 0"),
             ([3, 5, -1], "a width has to be from 0 to 9223372036854775807, and not -1"),
@@ -312,7 +315,7 @@ class Names(unittest.TestCase):
                 with self.assertRaises(ValueError) as caught:
                     call()
                 self.assertEqual(str(caught.exception), told)
-        with self.assertRaisesRegex(ValueError, "^the header has more than 13 bytes$"):
+        with self.assertRaisesRegex(ValueError, "^the header has more than 13 bytes; size may"):
             next(iter_table(io.BytesIO(b"x" * 99), COLUMNS, **how, size=13))
         for widths in [0, 0], [2, 2**63 - 1]:
             with self.assertRaisesRegex(ValueError, "the header has . bytes, and the widths have"):
@@ -328,6 +331,9 @@ class Names(unittest.TestCase):
             (b'id,"a text\nin two lines",amount\n', {}, "; has_quotes may have to be True"),
             (b'"id","amount"\r\n', {"has_quotes": True}, "; allows_returns may have to be True"),
             (b'"id","amounts"\n', {"has_quotes": True}, ": it has 'id', 'amounts'"),
+            (b"\nid,amount\n", {},
+             "; the first row is empty: skips_empty_rows may have to be True"),
+            (b"\n", {"skips_empty_rows": True}, "there is no header: the text has no byte"),
             ("id,amount\n".encode("utf-16"), {}, "; the text may be UTF-16, and has to be UTF-8"),
             (gzip.compress(b"id,amount\n1,2\n", mtime=0), {}, GZIP),
             (b"\x1f\x8b\x08\r\0", {}, GZIP),

@@ -12,7 +12,7 @@ import unittest
 from array import array
 from unittest import mock
 
-from jadvolni import (Column, Format, FormatError, ParseError, Sparse, Text, iter_table,
+from jadvolni import (Column, Fixed, Format, FormatError, ParseError, Sparse, Text, iter_table,
                       parse_table, read_table)
 
 LEDGER = {"day": "u16", "what": None, "cents": "i64"}
@@ -192,8 +192,10 @@ class Tables(unittest.TestCase):
         with self.assertRaisesRegex(ValueError, wanted):
             parse_table(TEXT, LEDGER, ";", True, out={})
         with memoryview(bytearray(17)) as view, view[1:].cast("q") as askew:
-            with self.assertRaisesRegex(ValueError, "out has to have aligned arrays"):
-                parse_table(b"1\n2\n", {"a": "i64"}, out={"a": askew})
+            for columns, text in ({"a": "i64"}, b"1\n2\n"), ({"x": None, "a": "i64"}, b",1\n,2\n"):
+                told = f"out has to have aligned arrays .* of column {len(columns)} isn't of i64$"
+                with self.assertRaisesRegex(ValueError, told):
+                    parse_table(text, columns, out={"a": askew})
             with view[1:1].cast("q") as empty:  # (as an array without items has it)
                 parse_table(b"", {"a": "i64"}, out={"a": empty})
 
@@ -210,6 +212,25 @@ class Tables(unittest.TestCase):
         with self.assertRaisesRegex(ValueError, "out has to have an array to write to for .* 'a'"):
             parse_table(b"1", {"a": "u8"}, out={"a": (numbers, bits)})
         self.assertEqual((numbers.tolist(), bytes(bits)), ([1, 0] * 4 + [9], b"\x55\xff"))
+
+    @unittest.skipIf(sys.version_info < (3, 12), "Python has no __buffer__")
+    def test_arrays_that_are_buffers_alone(self):
+        class Numbers:
+            """An array that can be neither indexed nor counted."""
+
+            def __init__(self, values):
+                self.values = values
+
+            def __buffer__(self, flags):
+                return memoryview(self.values)
+
+        for count in 2, 3:
+            numbers, bits = array("q", [9] * count), bytearray(b"\xff")
+            out = {"a": Numbers(numbers), "b": (Numbers(array("B", [9] * count)), Numbers(bits))}
+            table = parse_table(b"-1,\n2,3\n", {"a": "i64", "b": Column("u8", may_miss=True)},
+                                out=out)
+            self.assertEqual(lists(table), {"a": [-1, 2], "b": [None, 3]})
+            self.assertEqual((numbers.tolist()[:2], bytes(bits)), ([-1, 2], b"\xfe"))
 
     def test_memory_that_is_shared(self):
         columns, whole = {"a": "u8", "b": "u8"}, bytearray(b"1,2\n3,4\n")
@@ -231,8 +252,10 @@ class Tables(unittest.TestCase):
             self.assertRaises(ValueError, parse_table, b"1", columns)
         self.assertRaises(TypeError, parse_table, b"1", {"a": 7})
         kinds = " Its type may also be jadvolni.Text() or a jadvolni.Fixed."
+        named = " may_miss comes after it, or by its name."
         for wrong, note in ((Text, kinds), ("text", kinds), (7, kinds),
-                            (Column(Text(), Format()), "")):
+                            (Column(Text(), Format()), ""), (Column("u8", True), named),
+                            (Column("u8", "hex"), ""), (Column(Fixed(places=2), Format()), "")):
             for more in {}, {"out": {"a": bytearray(2), "b": bytearray(2)}}:
                 with self.assertRaises((TypeError, ValueError)) as caught:
                     parse_table(b"1,2", {"a": "u8", "b": wrong}, **more)

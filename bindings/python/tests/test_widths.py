@@ -125,7 +125,7 @@ class Widths(unittest.TestCase):
         given = {"widths": (2, 1, 3), "is_records": True, "out": out}
         self.assertEqual(lists(parse_table(b"12x34567y-12", BYTES, **given)),
                          {"a": [12, 67], "c": [345, -12]})
-        with self.assertRaisesRegex(ValueError, "room for the 4 rows"):
+        with self.assertRaisesRegex(ValueError, "room for the 4 rows of the text in the column 'a"):
             parse_table(b"12x345" * 3 + b"1", BYTES, **given)
         self.assertEqual(lists(out), {"a": [12, 67, 9], "c": [345, -12, 9]})
 

@@ -43,6 +43,13 @@ def _one_or_more(name: str, value: object) -> int:
     return number
 
 
+def too_long(what: str, size: int, quote: Optional[int] = None) -> ValueError:
+    """The exception for what has more than `size` bytes. A quote that isn't closed may be why."""
+    reason = "; size" if quote is None else (f": the quote at byte {quote} may lack the one that"
+                                             " closes it, or size")
+    return ValueError(f"{what} has more than {size} bytes{reason} may have to be larger")
+
+
 def _block(file: File, size: int) -> bytes:
     """The next bytes of a file, or none at its end."""
     if not hasattr(file, "read"):
@@ -175,7 +182,7 @@ def iter_column(
         if block and not stop:
             left += block
             if len(left) > size:
-                raise ValueError(f"the field at byte {start} has more than {size} bytes")
+                raise too_long(f"the field at byte {start}", size)
             continue
         text = bytes(left) + block[:stop] if left else memoryview(block)[:stop]
         numbers = _parse_part(text, type, parted, format, field, start)

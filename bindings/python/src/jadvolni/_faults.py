@@ -14,6 +14,8 @@ if TYPE_CHECKING:
 
 # An error shows at most this many bytes of a cell.
 SHOWN = 40
+# What a message adds about a line that ends before its widths do.
+TRIMMED = ": pad it if its last blanks were trimmed"
 # How texts in UTF-16 and compressed files begin, and what a message says of each.
 _HINTS = {
     b"\xff\xfe": "the text may be UTF-16, and has to be UTF-8",
@@ -108,7 +110,7 @@ class Part:
 
 class Fault(NamedTuple):
     """What is wrong with a row, as `_parse_table` reports it, with the line of its place, and a
-    hint if it is the first row."""
+    hint if it is the first row. `size` is how many bytes it has before its end."""
 
     kind: str
     message: str
@@ -119,6 +121,7 @@ class Fault(NamedTuple):
     row_stop: int
     cell: int
     text: bytes
+    size: int
     line: int = 0
     hint: str = ""
 
@@ -126,7 +129,7 @@ class Fault(NamedTuple):
         """The same fault, counted with the rows, bytes and lines before its part."""
         return Fault(self.kind, self.message, self.row + row, self.column, self.place + start,
                      self.row_start + start, self.row_stop + start, self.cell + start, self.text,
-                     self.line + line, "" if start else self.hint)
+                     self.size, self.line + line, "" if start else self.hint)
 
 
 def _escaped(character: str) -> str:
@@ -170,13 +173,30 @@ def _message(fault: Fault, name: object, where: str) -> str:
     return f"{message} at byte {fault.place - fault.cell} of the cell"
 
 
-def error_of(fault: Fault, names: Sequence[Any], has_records: bool, source: str) -> ParseError:
+def _hint(fault: Fault, width: Optional[int], has_records: bool) -> str:
+    """What a message adds if a row is empty, or ends before a cell of the widths does, which have
+    `width` bytes together."""
+    if fault.size == 0 and not has_records:
+        return "; the row is empty: skips_empty_rows may have to be True"
+    if width is None:
+        return ""
+    if fault.size == 0 and fault.row_stop - fault.row_start < width:
+        return "; the row is only a line end, and records have none"
+    if fault.kind != "TooFewCells":
+        return ""
+    hint = "" if has_records else TRIMMED
+    return f"; the row has {fault.size} of the {width} bytes of its widths{hint}"
+
+
+def error_of(
+    fault: Fault, names: Sequence[Any], width: Optional[int], has_records: bool, source: str
+) -> ParseError:
     """The exception for a fault that is counted over the whole text or file. Its message begins
-    with the file's name, if `source` has one."""
+    with the file's name, if `source` has one. `width` is that of all cells, if they have widths."""
     name = names[fault.column] if fault.column < len(names) else None
     where = f"row {fault.row + 1}" if has_records else f"line {fault.line + 1}"
     message = _message(fault, name, f"{source}, {where}" if source else where)
-    error = ParseError(message + fault.hint)
+    error = ParseError(message + (fault.hint or _hint(fault, width, has_records)))
     error.kind, error.place, error.line = fault.kind, fault.place, fault.line
     error.row, error.column, error.name = fault.row, fault.column, name
     error.row_start, error.row_stop = fault.row_start, fault.row_stop

@@ -4,7 +4,7 @@ from __future__ import annotations
 
 from typing import Iterable, Iterator, NamedTuple, Optional
 
-from ._blocks import Block, Blocks
+from ._blocks import Block, Blocks, too_long
 from ._core import _row_ends
 from ._faults import Fault, Part
 from ._reader import Reader
@@ -75,12 +75,10 @@ class _Rest:
         """Raises ValueError if the row is too long. It names the quote that may be the reason."""
         if len(self.bytes) <= self.size:
             return
-        message = f"the row at byte {self.start} has more than {self.size} bytes"
-        line = self.bytes.find(b"\n")
-        quote = self.bytes.rfind(b'"', 0, line if line >= 0 else None)
+        line, quote = self.bytes.find(b"\n"), None
         if self.reader.has_quotes and not self.reader.record and (line >= 0 or self.is_within):
-            message += f": the quote at byte {self.start + quote} may lack the one that closes it"
-        raise ValueError(message)
+            quote = self.start + self.bytes.rfind(b'"', 0, line if line >= 0 else None)
+        raise too_long(f"the row at byte {self.start}", self.size, quote)
 
 
 def whole_rows(

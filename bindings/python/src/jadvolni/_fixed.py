@@ -18,7 +18,8 @@ class Fixed:
     places after a point. Calls accept it as a type.
 
     The numbers are in units of the last place; they are exact, and nothing is rounded: with two
-    places "12.50" is 1250, "-0.05" is -5, and "12.505" is a fault at its last byte.
+    places "12.50" is 1250, "-0.05" is -5, and "12.505" is a fault at its last byte. With the
+    module decimal, f"{Decimal(1250).scaleb(-2):f}" is "12.50" again, for up to 28 digits.
 
     type: The type of the numbers, in these units.
     places: The number of decimal places, from 0 to 38. With 0 no point is read.

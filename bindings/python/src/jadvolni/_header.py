@@ -7,7 +7,7 @@ from collections import Counter
 from itertools import chain
 from typing import TYPE_CHECKING, Iterator, Sequence
 
-from ._blocks import Block
+from ._blocks import Block, too_long
 from ._core import _row_cells, _row_ends
 from ._faults import SHOWN, Part, hint_at
 from ._format import bytes_of
@@ -47,7 +47,8 @@ def names_of(line: bytes, how: How) -> list[str]:
     """The names in a header's line or record."""
     line = _without_end(line, how)
     if how.widths is not None:
-        return [_name(cell, how) for cell in header_cells(line, sizes_of(how.widths))]
+        cells = header_cells(line, sizes_of(how.widths), how.is_records)
+        return [_name(cell, how) for cell in cells]
     separator = b"," if how.separator is None else how.separator
     # Quotes have a meaning if all of them close.
     has_quotes = bool(how.has_quotes) and line.count(b'"') % 2 == 0
@@ -116,7 +117,7 @@ def _first_record(blocks: Iterator[Block], record: int, size: int) -> tuple[byte
         may_be_mark = len(text) < len(_MARK) and _MARK.startswith(text)
         stop = record + (len(_MARK) if text.startswith(_MARK) else 0)
         if min(len(text), stop) > size:
-            raise ValueError(f"the header has more than {size} bytes")
+            raise too_long("the header", size)
         if not block or (len(text) >= stop and not may_be_mark):
             break
     if not text:
@@ -137,8 +138,7 @@ def _first_line(
         start = len(line)
         line += block[:end] if end else block
         if len(line) > size:
-            quote = _quote_in(line, before) if is_within else ""
-            raise ValueError(f"the header has more than {size} bytes{quote}")
+            raise too_long("the header", size, _quote_in(line, before) if is_within else None)
         if end or not block:
             break
     if not line:
@@ -152,10 +152,9 @@ def _first_line(
     return bytes(line), bytes(memoryview(block)[len(line) - start:])
 
 
-def _quote_in(line: bytes, start: int) -> str:
-    """What a message says of the quote that a header, which starts at byte `start`, leaves open."""
-    at = start + line.rfind(b'"', 0, (line + b"\n").index(b"\n"))
-    return f": the quote at byte {at} may lack the one that closes it"
+def _quote_in(line: bytes, start: int) -> int:
+    """The place of the quote that a header, which starts at byte `start`, leaves open."""
+    return start + line.rfind(b'"', 0, (line + b"\n").index(b"\n"))
 
 
 def _shown(name: object) -> str:
@@ -175,6 +174,8 @@ def _hint(names: Sequence[str], missing: Sequence[str], how: How) -> str:
     """What a message says of why a header may lack names."""
     if hint := hint_at(names[0].encode("utf-8", "surrogateescape")):
         return hint
+    if names == [""] and not how.skips_empty_rows:
+        return "; the first row is empty: skips_empty_rows may have to be True"
     if not how.has_quotes and any(name.startswith('"') for name in names):
         return "; has_quotes may have to be True"
     has_none = not how.has_returns and not how.allows_returns

@@ -67,16 +67,19 @@ def ask_type(name: str, value: object, kind: Any, wanted: str) -> None:
 
 
 def _ask_column(name: str, column: Column) -> None:
-    """Raises TypeError or ValueError, and notes the column, unless its type is one of a table."""
-    is_text = isinstance(column.type, _texts.Text)
+    """Raises TypeError or ValueError, and notes the column, unless its type is one of a table, and
+    its format goes with it."""
+    more = ""
     try:
-        if not is_text:
+        if not isinstance(column.type, _texts.Text):
+            more = " Its type may also be jadvolni.Text() or a jadvolni.Fixed."
             _array_code(column.type)
+            more = " may_miss comes after it, or by its name." if column.format is True else ""
+            _array_code(column.type, column.format)
         elif column.format is not None:
             raise TypeError("format has to be None where the type is a Text")
     except (TypeError, ValueError) as error:
-        others = "" if is_text else " Its type may also be jadvolni.Text() or a jadvolni.Fixed."
-        error.add_note(f"The column is {name!r}.{others}")
+        error.add_note(f"The column is {name!r}.{more}")
         raise
 
 
@@ -117,6 +120,8 @@ class Reader:
         if how.widths is not None:
             sizes = sizes_of(how.widths)
             ask_count(sizes, len(self.cells))
+        # How many bytes the cells of a row have together, if they have widths.
+        self.width = None if how.widths is None else sum(sizes)
         separator = b"," if how.separator is None else how.separator
         self.how = (separator, *how[1:6], sizes, how.is_records, how.allows_returns)
         self.has_quotes = bool(how.has_quotes)
@@ -198,7 +203,7 @@ class Reader:
         """The exception for a fault, counted with the rows, bytes and lines before its part."""
         if row or start or line:
             fault = fault.behind(row, start, line + row if self.is_by_lines else line)
-        return error_of(fault, self.cells, bool(self.record), self.at_fault.source)
+        return error_of(fault, self.cells, self.width, bool(self.record), self.at_fault.source)
 
     def lines_in(self, text: bytes | memoryview) -> int:
         """How many line feeds a text has, or 0 if each row is a line: then rows are counted."""

@@ -175,6 +175,8 @@ def _view(values: Any, count: int) -> Any:
         return _front(values, count)
     if isinstance(values, tuple):
         return with_pair(values, _view(values[0], count), _view(values[1], (count + 7) // 8))
+    if not (hasattr(values, "__len__") and hasattr(values, "__getitem__")):
+        values = memoryview(values)  # (of an object that has nothing but a buffer)
     return values if len(values) == count else values[:count]
 
 

@@ -71,7 +71,8 @@ def _room_of(reader: Reader, out: Mapping[str, Any], rows: int) -> Table:
             wanted = "a Sparse of arrays" if column.may_miss else "an array"
             raise ValueError(f"out has to have {wanted} to write to for the column {name!r}")
         if any(size < needed for size, needed in zip(sizes, (rows, (rows + 7) // 8))):
-            raise ValueError(f"out has to have room for the {rows} rows of the text")
+            raise ValueError(f"out has to have room for the {rows} rows of the text in the column"
+                             f" {name!r}")
     return Table({name: out[name] if name in numbers else reader.room_of(column, rows)
                   for name, column in reader.read.items()})
 
@@ -156,7 +157,8 @@ def parse_table(
     table has quotes. It is all that the cell holds, and counts only in a Column with may_miss. A
     column of numbers then is a Sparse.
     widths: the width of each cell in bytes. Cells then have no separator. A line that ends before a
-    cell is complete, as one without its last blanks, has too few cells.
+    cell is complete, as one without its last blanks, has too few cells: pad such lines, as by
+    line.ljust(sum(widths)).
     is_records: rows have as many bytes as the widths together, at least one, and no line feed: one
     at the end of the text belongs to a further row.
     out: a dict of writable arrays with room for all rows, one for each column of numbers, and a

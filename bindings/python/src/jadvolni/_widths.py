@@ -7,7 +7,7 @@ from array import array
 from itertools import accumulate, pairwise
 from typing import Iterable, Sequence
 
-from ._faults import hint_at
+from ._faults import TRIMMED, hint_at
 from ._format import _integer
 
 
@@ -28,10 +28,11 @@ def ask_count(sizes: Sequence[int], count: int) -> None:
         raise ValueError(f"widths have to be one for each of {count} columns, and not {len(sizes)}")
 
 
-def header_cells(line: bytes, sizes: Sequence[int]) -> list[bytes]:
+def header_cells(line: bytes, sizes: Sequence[int], is_record: bool) -> list[bytes]:
     """The cells of a header, which has to have as many bytes as the widths together."""
     stops = list(accumulate(sizes, initial=0))
     if len(line) != stops[-1]:
-        raise ValueError(f"the header has {len(line)} bytes, and the widths have {stops[-1]}"
-                         f"{hint_at(line)}")
+        is_trimmed = len(line) < stops[-1] and not is_record
+        hint = hint_at(line) or (TRIMMED if is_trimmed else "")
+        raise ValueError(f"the header has {len(line)} bytes, and the widths have {stops[-1]}{hint}")
     return [line[start:stop] for start, stop in pairwise(stops)]

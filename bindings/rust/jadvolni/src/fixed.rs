@@ -1,6 +1,8 @@
 //! Fixed-point numbers, such as amounts of money.
 
+use crate::format::ByteShown;
 use crate::{integer, Error, Format, Integer};
+use core::fmt;
 use jadvolni_sys as sys;
 
 /// How fixed-point numbers are written: an integer part, and decimal places after a point.
@@ -15,7 +17,7 @@ use jadvolni_sys as sys;
 /// ```
 ///
 /// Any values may be set: the calls refuse a description that breaks a rule, and `error` checks it in advance.
-#[derive(Debug, Copy, Clone, PartialEq, Eq, Hash)]
+#[derive(Copy, Clone, PartialEq, Eq, Hash)]
 pub struct Fixed(pub(crate) sys::jadvolni_fixed);
 
 impl Fixed {
@@ -75,6 +77,17 @@ impl Fixed {
         // SAFETY: the call reads the description that it borrows, and nothing else.
         let status = unsafe { sys::jadvolni_fixed_error(&self.0) };
         Error::of(sys::jadvolni_result { status, place: 0 })
+    }
+}
+
+impl fmt::Debug for Fixed {
+    /// What was set, with the format of the integer part.
+    fn fmt(&self, f: &mut fmt::Formatter<'_>) -> fmt::Result {
+        let point = if self.0.point == 0 { b'.' } else { self.0.point };
+        let mut shown = f.debug_struct("Fixed");
+        shown.field("places", &self.0.places).field("point", &ByteShown(point));
+        shown.field("takes_fewer", &(self.0.takes_fewer != 0));
+        shown.field("integer", &Format(self.0.integer)).finish()
     }
 }
 

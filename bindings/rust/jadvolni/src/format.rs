@@ -1,6 +1,7 @@
 //! Formats: which texts are numbers.
 
 use crate::Error;
+use core::fmt;
 use jadvolni_sys as sys;
 
 /// Which texts are numbers. Begin with one of the constants, and set what differs.
@@ -13,7 +14,7 @@ use jadvolni_sys as sys;
 ///
 /// Any values may be set: the calls refuse a format that breaks a rule, and `error` checks it in advance. No field
 /// requires a prefix or a suffix, or refuses a minus for a signed type.
-#[derive(Debug, Copy, Clone, PartialEq, Eq, Hash)]
+#[derive(Copy, Clone, PartialEq, Eq, Hash)]
 pub struct Format(pub(crate) sys::jadvolni_format);
 
 /// Each field unset.
@@ -22,33 +23,60 @@ const ZEROS: Format = Format(unsafe { core::mem::zeroed() });
 
 /// The setters of flags: each sets the byte of its name.
 macro_rules! flags {
-    ($($(#[$about:meta])* $name:ident)*) => {$(
-        $(#[$about])*
-        #[must_use]
-        pub const fn $name(mut self, is_set: bool) -> Format {
-            self.0.$name = is_set as u8;
-            self
+    ($($(#[$about:meta])* $name:ident)*) => {
+        $(
+            $(#[$about])*
+            #[must_use]
+            pub const fn $name(mut self, is_set: bool) -> Format {
+                self.0.$name = is_set as u8;
+                self
+            }
+        )*
+
+        /// Shows the flags that the standard format has otherwise.
+        fn show_flags(&self, shown: &mut fmt::DebugStruct<'_, '_>) {
+            $(if self.0.$name != Format::STANDARD.0.$name {
+                shown.field(stringify!($name), &(self.0.$name != 0));
+            })*
         }
-    )*};
+    };
 }
 
 /// The setters of bytes of punctuation: each sets the byte of its name, or the bit that says that it is the byte 0.
 macro_rules! punctuation {
-    ($($(#[$about:meta])* $name:ident $bit:ident)*) => {$(
-        $(#[$about])*
-        #[must_use]
-        pub const fn $name(mut self, byte: Option<u8>) -> Format {
-            self.0.$name = match byte {
-                Some(byte) => byte,
-                None => 0,
-            };
-            self.0.nul_is_punctuation &= !sys::$bit;
-            if let Some(0) = byte {
-                self.0.nul_is_punctuation |= sys::$bit;
+    ($($(#[$about:meta])* $name:ident $bit:ident)*) => {
+        $(
+            $(#[$about])*
+            #[must_use]
+            pub const fn $name(mut self, byte: Option<u8>) -> Format {
+                self.0.$name = match byte {
+                    Some(byte) => byte,
+                    None => 0,
+                };
+                self.0.nul_is_punctuation &= !sys::$bit;
+                if let Some(0) = byte {
+                    self.0.nul_is_punctuation |= sys::$bit;
+                }
+                self
             }
-            self
+        )*
+
+        /// Shows the bytes that are set.
+        fn show_punctuation(&self, shown: &mut fmt::DebugStruct<'_, '_>) {
+            $(if self.0.$name != 0 || self.0.nul_is_punctuation & sys::$bit != 0 {
+                shown.field(stringify!($name), &ByteShown(self.0.$name));
+            })*
         }
-    )*};
+    };
+}
+
+/// A byte as a literal has it: `b','`.
+pub(crate) struct ByteShown(pub(crate) u8);
+
+impl fmt::Debug for ByteShown {
+    fn fmt(&self, f: &mut fmt::Formatter<'_>) -> fmt::Result {
+        write!(f, "b'{}'", self.0.escape_ascii())
+    }
 }
 
 impl Format {
@@ -133,6 +161,23 @@ impl Format {
         // SAFETY: the call reads the format that it borrows, and nothing else.
         let status = unsafe { sys::jadvolni_format_error(&self.0) };
         Error::of(sys::jadvolni_result { status, place: 0 })
+    }
+}
+
+impl fmt::Debug for Format {
+    /// The radix, and what differs from the standard format.
+    ///
+    /// ```
+    /// use jadvolni::Format;
+    /// let hexadecimal = Format::STANDARD.mantissa_radix(16).base_prefix(Some(b'x'));
+    /// assert_eq!(format!("{hexadecimal:?}"), "Format { mantissa_radix: 16, base_prefix: b'x' }");
+    /// ```
+    fn fmt(&self, f: &mut fmt::Formatter<'_>) -> fmt::Result {
+        let mut shown = f.debug_struct("Format");
+        shown.field("mantissa_radix", &self.0.mantissa_radix);
+        self.show_punctuation(&mut shown);
+        self.show_flags(&mut shown);
+        shown.finish()
     }
 }
 

@@ -3,7 +3,9 @@
 extern crate std;
 
 use crate::block::{grow, read_once, Block};
+use crate::format::ByteShown;
 use crate::{field_start, parse_column_with_format, ColumnError, ColumnInteger, Format};
+use core::any::type_name;
 use core::fmt;
 use std::io::{self, Read};
 use std::vec::Vec;
@@ -154,12 +156,15 @@ impl<R: Read, T: ColumnInteger> ColumnReader<R, T> {
     }
 }
 
-impl<R: fmt::Debug, T> fmt::Debug for ColumnReader<R, T> {
-    /// The reader, and how far it was parsed: neither its text nor its numbers, of which a block may have many.
+impl<R, T> fmt::Debug for ColumnReader<R, T> {
+    /// The reader's type, how many bytes of the block are left, and how far it was parsed: neither what the reader has,
+    /// which may be all of a text, nor what the block has.
     fn fmt(&self, f: &mut fmt::Formatter<'_>) -> fmt::Result {
         let mut shown = f.debug_struct("ColumnReader");
-        shown.field("reader", &self.reader).field("separator", &self.separator);
-        shown.field("format", &self.format).field("field", &self.field);
+        shown.field("reader", &format_args!("{}", type_name::<R>()));
+        shown.field("separator", &ByteShown(self.separator)).field("format", &self.format);
+        shown.field("block", &format_args!("{}/{}", self.filled, self.block.len()));
+        shown.field("field", &self.field);
         shown.field("start", &self.start).field("has_ended", &self.has_ended);
         shown.finish_non_exhaustive()
     }

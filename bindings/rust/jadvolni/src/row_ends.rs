@@ -16,14 +16,18 @@ pub(crate) struct RowEnds {
 
 impl RowEnds {
     pub(crate) fn new(dialect: &Dialect<'_>) -> Self {
-        let size = dialect.widths().iter().fold(0, |sum: usize, width| sum.saturating_add(*width));
         RowEnds {
-            record: (dialect.0.is_records != 0).then_some(size.max(1)),
+            record: (dialect.0.is_records != 0).then(|| RowEnds::width(dialect).max(1)),
             has_quotes: dialect.0.has_quotes != 0,
             seen: 0,
             open: None,
             last: None,
         }
+    }
+
+    /// How many bytes the cells of a row have together, by their widths.
+    pub(crate) fn width(dialect: &Dialect<'_>) -> usize {
+        dialect.widths().iter().fold(0, |sum, width| sum.saturating_add(*width))
     }
 
     /// Another row begins.

@@ -1,5 +1,6 @@
 //! Tables: the rows of a text, each column read into a slice of its own by one call.
 
+use crate::format::ByteShown;
 use crate::table_column::call_on_rows;
 use crate::{row_place, Error, Position, TableColumn, TableFault};
 use core::fmt;
@@ -40,7 +41,7 @@ impl<'a> Dialect<'a> {
     }
 
     /// Cells of fixed widths in bytes, with nothing between them: a width for each column. If there is none at all, the
-    /// cells have NULs between them.
+    /// cells have NULs between them. A line whose last blanks were trimmed has too few cells: pad it.
     ///
     /// ```
     /// use jadvolni::{parse_table, Dialect, Table, TableColumn};
@@ -139,7 +140,7 @@ impl fmt::Debug for Dialect<'_> {
     fn fmt(&self, f: &mut fmt::Formatter<'_>) -> fmt::Result {
         let (how, flag) = (&self.0, |byte: u8| byte != 0);
         let mut shown = f.debug_struct("Dialect");
-        shown.field("separator", &format_args!("b'{}'", how.separator.escape_ascii()));
+        shown.field("separator", &ByteShown(how.separator));
         shown.field("has_returns", &flag(how.has_returns));
         shown.field("allows_returns", &flag(how.allows_returns));
         shown.field("has_quotes", &flag(how.has_quotes));

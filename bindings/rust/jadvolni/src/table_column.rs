@@ -1,5 +1,6 @@
 //! The columns of a table: what their cells look like, and the slices that they are stored in.
 
+use crate::format::ByteShown;
 use crate::{CellText, ColumnInteger, Fixed, Format};
 use core::fmt;
 use core::marker::PhantomData;
@@ -86,8 +87,8 @@ impl fmt::Debug for TableColumn<'_> {
             shown.field("format", &Format(self.0.format));
         }
         if items != "text" && self.0.places != 0 {
-            shown.field("places", &self.0.places).field("point", &self.0.point);
-            shown.field("takes_fewer", &self.0.takes_fewer);
+            shown.field("places", &self.0.places).field("point", &ByteShown(self.0.point));
+            shown.field("takes_fewer", &(self.0.takes_fewer != 0));
         }
         shown.finish()
     }

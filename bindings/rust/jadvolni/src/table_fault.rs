@@ -44,8 +44,47 @@ pub struct TableFault {
     pub row_stop: usize,
     is_record: bool,
     cell: Option<Cell>,
+    hint: Option<Hint>,
     #[cfg(feature = "std")]
     name: Option<Box<str>>,
+}
+
+/// What a message adds about a row.
+#[derive(Debug, Copy, Clone, PartialEq, Eq)]
+enum Hint {
+    /// It is only a line end.
+    LineEnd,
+    /// It has `size` bytes before its line end, and needs `width` by the widths of its cells.
+    Short { size: usize, width: usize },
+}
+
+impl Hint {
+    /// What may be said of a row, with its line end, that has the error.
+    fn of(error: Error, row: &[u8], dialect: &Dialect<'_>) -> Option<Hint> {
+        let takes_return = (dialect.0.has_returns | dialect.0.allows_returns) != 0;
+        let (is_record, width) = (dialect.0.is_records != 0, RowEnds::width(dialect));
+        let is_short = matches!(error, Error::TooFewCells(_)) && !dialect.widths().is_empty();
+        match row {
+            b"\n" | b"\r\n" if is_record && row.len() < width => Some(Hint::LineEnd),
+            b"\n" if !is_record => Some(Hint::LineEnd),
+            b"\r\n" if !is_record && takes_return => Some(Hint::LineEnd),
+            _ if is_short => {
+                Some(Hint::Short { size: size_without_end(row, takes_return, dialect), width })
+            }
+            _ => None,
+        }
+    }
+}
+
+/// How many bytes a row has before its line end. A record has none.
+fn size_without_end(row: &[u8], takes_return: bool, dialect: &Dialect<'_>) -> usize {
+    match RowEnds::new(dialect).stop_in(row) {
+        Some(stop) if dialect.0.is_records == 0 => {
+            let line = &row[..stop - 1];
+            line.strip_suffix(b"\r").filter(|_| takes_return).unwrap_or(line).len()
+        }
+        _ => row.len(),
+    }
 }
 
 /// A wrong cell: its text, and the place of the fault in it.
@@ -88,6 +127,7 @@ impl TableFault {
             row_stop: start + row.len(),
             is_record: dialect.0.is_records != 0,
             cell: Cell::of(&error, row, at, dialect),
+            hint: Hint::of(error.error, row, dialect),
             ..TableFault::without_place(error)
         }
     }
@@ -103,6 +143,7 @@ impl TableFault {
             row_stop: 0,
             is_record: false,
             cell: None,
+            hint: None,
             #[cfg(feature = "std")]
             name: None,
         }
@@ -145,6 +186,48 @@ impl TableFault {
             return crate::header::put_name(f, name);
         }
         write!(f, "column {}", self.column.saturating_add(1))
+    }
+
+    /// The column with its wrong cell, and what is wrong there.
+    fn put_cell(&self, f: &mut fmt::Formatter<'_>, cell: &Cell) -> fmt::Result {
+        f.write_str(", ")?;
+        self.put_column(f)?;
+        f.write_str(": ")?;
+        cell.text.put_quoted(f)?;
+        write!(f, ": {}", self.error.message())?;
+        match self.error {
+            Error::TooManyCells(_) => Ok(()),
+            _ => write!(f, " at byte {} of the cell", cell.place),
+        }
+    }
+
+    /// What is wrong with a row of which no cell is known that is wrong.
+    fn put_without_cell(&self, f: &mut fmt::Formatter<'_>) -> fmt::Result {
+        write!(f, ": {}", self.error.message())?;
+        match self.error {
+            Error::TooFewCells(_) => f.write_str(", none for ").and_then(|()| self.put_column(f)),
+            _ => Ok(()),
+        }
+    }
+
+    /// What may have to be done about an empty row, and how much there is of one that ends before its widths do.
+    fn put_hint(&self, f: &mut fmt::Formatter<'_>) -> fmt::Result {
+        match self.hint {
+            None => Ok(()),
+            Some(Hint::LineEnd) if self.is_record => {
+                f.write_str("; the row is only a line end, and records have none")
+            }
+            Some(Hint::LineEnd) => {
+                f.write_str("; the row is empty: skips_empty_rows may have to be set")
+            }
+            Some(Hint::Short { size, width }) => {
+                let more = match self.is_record {
+                    true => "",
+                    false => ": pad it if its last blanks were trimmed",
+                };
+                write!(f, "; the row has {size} of the {width} bytes of its widths{more}")
+            }
+        }
     }
 
     /// A fault of the table, or of the format of a column.
@@ -194,23 +277,11 @@ impl fmt::Display for TableFault {
             return self.put_without_place(f);
         }
         self.put_row(f)?;
-        let message = self.error.message();
-        let Some(cell) = &self.cell else {
-            write!(f, ": {message}")?;
-            if matches!(self.error, Error::TooFewCells(_)) {
-                f.write_str(", none for ")?;
-                self.put_column(f)?;
-            }
-            return Ok(());
-        };
-        f.write_str(", ")?;
-        self.put_column(f)?;
-        f.write_str(": ")?;
-        cell.text.put_quoted(f)?;
-        match self.error {
-            Error::TooManyCells(_) => write!(f, ": {message}"),
-            _ => write!(f, ": {message} at byte {} of the cell", cell.place),
+        match &self.cell {
+            Some(cell) => self.put_cell(f, cell)?,
+            None => self.put_without_cell(f)?,
         }
+        self.put_hint(f)
     }
 }
 

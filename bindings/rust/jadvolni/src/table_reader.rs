@@ -10,6 +10,7 @@ use crate::{
     parse_table_part, parse_table_part_skipping, BadRow, Dialect, Header, TableColumn, TableError,
     TableFault, TableReadError,
 };
+use core::any::type_name;
 use core::fmt;
 use std::boxed::Box;
 use std::io::Read;
@@ -351,11 +352,15 @@ impl<'a, R: Read> TableReader<'a, R> {
     }
 }
 
-impl<R: fmt::Debug> fmt::Debug for TableReader<'_, R> {
-    /// The reader, and how far it was parsed: neither its text nor its bad rows, of which a block may have many.
+impl<R> fmt::Debug for TableReader<'_, R> {
+    /// The reader's type, how many bytes of the block are left, and how far it was parsed: neither what the reader has,
+    /// which may be all of a text, nor what the block has.
     fn fmt(&self, f: &mut fmt::Formatter<'_>) -> fmt::Result {
         let mut shown = f.debug_struct("TableReader");
-        shown.field("reader", &self.reader).field("dialect", &self.dialect);
+        shown.field("reader", &format_args!("{}", type_name::<R>()));
+        shown.field("dialect", &self.dialect);
+        let left = self.filled - self.parsed;
+        shown.field("block", &format_args!("{left}/{}", self.block.len()));
         shown.field("row", &self.row).field("bad_rows", &self.bad_rows);
         shown.field("start", &(self.start + self.parsed)).field("has_ended", &self.has_ended);
         shown.finish_non_exhaustive()

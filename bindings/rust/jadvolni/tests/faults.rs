@@ -85,7 +85,71 @@ fn hostile_cells() {
     let told = fault("1,a,7x\n\n\n2,b,8\n", &comma().skips_empty_rows(true));
     assert_eq!((told.row_start, told.row_stop, told.text()), (0, 7, Some(&b"7x"[..])));
     let told = fault("\n1,a,7\n", &comma());
-    assert_eq!(told.to_string(), r#"line 1, column 1: "": missing digit at byte 0 of the cell"#);
+    let wanted = r#"line 1, column 1: "": missing digit at byte 0 of the cell"#;
+    assert_eq!(told.to_string(), wanted.to_owned() + EMPTY);
+}
+
+/// What a message adds about an empty row.
+const EMPTY: &str = "; the row is empty: skips_empty_rows may have to be set";
+
+/// The message names the option that skips empty rows.
+#[test]
+fn empty_rows() {
+    let missing = r#"line 2, column 1: "": missing digit at byte 0 of the cell"#;
+    let returns = comma().has_returns(true);
+    for (text, dialect) in [
+        ("1,a,2\n\n", comma()),
+        ("1,a,2\r\n\n", returns),
+        ("1,a,2\r\n\r\n3,b,4", returns),
+        ("1,a,2\r\n\r\n", comma().allows_returns(true)),
+        ("1,\"a\",2\n\n\"", comma().has_quotes(true)),
+    ] {
+        assert_eq!(fault(text, &dialect).to_string(), missing.to_owned() + EMPTY, "{text:?}");
+    }
+    for (text, dialect) in [("\r\n", comma()), ("\r", returns)] {
+        let wanted = r#"line 1, column 1: "\r": invalid digit at byte 0 of the cell"#;
+        assert_eq!(fault(text, &dialect).to_string(), wanted);
+    }
+    let told = fault("12a345\n\n", &Dialect::of_widths(&[2, 1, 3]));
+    let wanted = "line 2: too few cells, none for column 1";
+    assert_eq!(told.to_string(), wanted.to_owned() + EMPTY);
+    // It is there too where the first cell isn't read, and its column has a name.
+    let (text, mut numbers) = ("a,b\n1,2\n\n", [0u8; 9]);
+    let mut rows = TableReader::new(text.as_bytes(), comma());
+    rows.header().unwrap();
+    let error = rows.read(&mut [TableColumn::UNREAD, TableColumn::of(&mut numbers)]).unwrap_err();
+    assert_eq!(error.to_string(), r#"line 3: too few cells, none for "b""#.to_owned() + EMPTY);
+}
+
+#[test]
+fn rows_that_end_before_their_widths() {
+    let few = |row: &str, column: usize, size: usize, more: &str| {
+        let column = format!("{row}: too few cells, none for column {column}");
+        format!("{column}; the row has {size} of the 6 bytes of its widths{more}")
+    };
+    let (widths, trimmed) = ([2, 1, 3], ": pad it if its last blanks were trimmed");
+    let lines = Dialect::of_widths(&widths);
+    let (returns, records) = (lines.has_returns(true), lines.is_records(true));
+    for (text, dialect, wanted) in [
+        ("12a3\n", lines, few("line 1", 3, 4, trimmed)),
+        ("12a345\n1", lines, few("line 2", 1, 1, trimmed)),
+        ("12a345\r\n12a \r\n", returns, few("line 2", 3, 4, trimmed)),
+        ("12a\"\n", lines.has_quotes(true), few("line 2", 3, 5, trimmed)),
+        ("12a3451", records, few("row 2", 1, 1, "")),
+        ("12a34512a\r\n", records, few("row 2", 3, 5, "")),
+    ] {
+        assert_eq!(fault(text, &dialect).to_string(), wanted, "{text:?}");
+    }
+    let only = "; the row is only a line end, and records have none";
+    for (text, wanted) in [
+        ("12a345\n", "row 2: too few cells, none for column 1"),
+        ("12a345\r\n", r#"row 2, column 1: "\r\n": invalid digit at byte 0 of the cell"#),
+    ] {
+        let told = fault(text, &records.skips_empty_rows(true));
+        assert_eq!(told.to_string(), wanted.to_owned() + only);
+    }
+    let told = fault("\n", &Dialect::of_widths(&[0, 1, 0]).is_records(true));
+    assert_eq!(told.to_string(), r#"row 1, column 1: "": missing digit at byte 0 of the cell"#);
 }
 
 #[test]
@@ -94,7 +158,6 @@ fn cells_of_given_widths() {
     let lines = Dialect::of_widths(&widths);
     let told = fault("12a345\n1xb678\n", &lines);
     assert_eq!(told.to_string(), r#"line 2, column 1: "1x": invalid digit at byte 1 of the cell"#);
-    assert_eq!(fault("12a3\n", &lines).to_string(), "line 1: too few cells, none for column 3");
     assert_eq!(fault("12a345b\n", &lines).to_string(), "line 1, column 4: \"b\": too many cells");
     let told = fault("12\n34512a3x5", &lines.is_records(true));
     assert_eq!(told.to_string(), r#"row 2, column 3: "3x5": invalid digit at byte 1 of the cell"#);

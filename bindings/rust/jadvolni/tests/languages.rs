@@ -69,21 +69,31 @@ fn byte_of(words: &str, word: &str, standard: u8) -> u8 {
     }
 }
 
+/// A field as a format shows it, by its line in the list, where a language has these words: `None` where it is that of
+/// the standard format, unless it is the radix.
+fn shown(line: &str, words: &str) -> Option<String> {
+    let [name, kind, word]: [&str; 3] =
+        line.split(" | ").take(3).collect::<Vec<_>>().try_into().unwrap();
+    let standard = match kind {
+        "radix" => 10,
+        _ => u8::from(name == "required_mantissa_digits"),
+    };
+    let byte = byte_of(words, word, standard);
+    match kind {
+        "radix" => Some(format!("{name}: {byte}")),
+        _ if byte == standard => None,
+        "flag" => Some(format!("{name}: {}", byte != 0)),
+        _ => Some(format!("{name}: b'{}'", byte.escape_ascii())),
+    }
+}
+
 #[test]
 fn fields_of_languages() {
     for (language, format) in Format::LANGUAGES {
         let begin = format!("fields | {language} | ");
         let words = LANGUAGES.lines().find_map(|line| line.strip_prefix(&begin)).unwrap();
-        let said = format!("{format:?}");
-        for line in FIELDS.lines().filter(|line| !line.starts_with('#')) {
-            let [name, _, word]: [&str; 3] =
-                line.split(" | ").take(3).collect::<Vec<_>>().try_into().unwrap();
-            let standard = match name {
-                "mantissa_radix" => 10,
-                _ => u8::from(name == "required_mantissa_digits"),
-            };
-            let wanted = format!(" {name}: {},", byte_of(words, word, standard));
-            assert!(said.contains(&wanted), "{language} has no{wanted} but {said}");
-        }
+        let fields = FIELDS.lines().filter(|line| !line.starts_with('#'));
+        let wanted = fields.filter_map(|line| shown(line, words)).collect::<Vec<_>>().join(", ");
+        assert_eq!(format!("{format:?}"), format!("Format {{ {wanted} }}"), "{language}");
     }
 }

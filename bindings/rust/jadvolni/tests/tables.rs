@@ -2,8 +2,8 @@
 #![cfg(feature = "std")]
 
 use jadvolni::{
-    parse_table, parse_table_part, CellText, Dialect, Error, Fixed, Format, Table, TableColumn,
-    TableError, TableReadError, TableReader,
+    parse_table, parse_table_part, CellText, ColumnReader, Dialect, Error, Fixed, Format,
+    ReadError, Table, TableColumn, TableError, TableReadError, TableReader,
 };
 use std::io::ErrorKind;
 
@@ -244,6 +244,47 @@ fn records_from_a_reader() {
 }
 
 #[test]
+fn shown_for_debugging_formats_have_what_was_set() {
+    let shown = |format: Format| format!("{format:?}");
+    assert_eq!(shown(Format::STANDARD), "Format { mantissa_radix: 10 }");
+    let hexadecimal = Format::STANDARD.mantissa_radix(16).base_prefix(Some(b'x'));
+    let wanted = "Format { mantissa_radix: 16, base_prefix: b'x' }";
+    assert_eq!(shown(hexadecimal.case_sensitive_base_prefix(false)), wanted);
+    let grouped = Format::STANDARD.digit_separator(Some(b'\'')).base_suffix(Some(0));
+    let wanted = "Format { mantissa_radix: 10, digit_separator: b'\\'', base_suffix: b'\\x00', \
+        required_mantissa_digits: false, integer_internal_digit_separator: true }";
+    let flags = grouped.required_mantissa_digits(false).integer_internal_digit_separator(true);
+    assert_eq!(shown(flags), wanted);
+    let amount = Fixed::of_places(2).point(b',').group_separator(Some(b'.'));
+    let wanted = "Fixed { places: 2, point: b',', takes_fewer: false, integer: Format { mantissa_radix: 10, \
+        digit_separator: b'.', integer_internal_digit_separator: true } }";
+    assert_eq!(format!("{amount:?}"), wanted);
+    assert!(format!("{:?}", amount.point(0)).contains("point: b'.'"));
+    assert!(format!("{amount:#?}").contains("\n    point: b',',\n"));
+}
+
+#[test]
+fn shown_for_debugging_readers_have_sizes_for_their_texts() {
+    let text = "1,2\n".repeat(9);
+    let mut rows = TableReader::with_capacity(9, text.as_bytes(), comma());
+    let mut numbers = [0u8; 1];
+    assert_eq!(rows.read(&mut [TableColumn::of(&mut numbers), TableColumn::UNREAD]).unwrap(), 1);
+    let shown = format!("{rows:?}");
+    assert!(shown.starts_with("TableReader { reader: &[u8], dialect: Dialect {"), "{shown}");
+    assert!(
+        shown.contains("block: 6/10, row: 1, bad_rows: 0, start: 4, has_ended: false"),
+        "{shown}"
+    );
+    let mut column =
+        ColumnReader::<_, u8>::with_capacity(9, text.as_bytes(), b'\n', Format::STANDARD);
+    assert!(matches!(column.next(), Some(Err(ReadError::Column(_)))));
+    let wanted =
+        "ColumnReader { reader: &[u8], separator: b'\\n', format: Format { mantissa_radix: 10 }, \
+        block: 2/10, field: 0, start: 8, has_ended: true, .. }";
+    assert_eq!(format!("{column:?}"), wanted);
+}
+
+#[test]
 fn shown_for_debugging_tables_have_no_addresses() {
     let (mut numbers, mut bits, mut cents) = ([0u8; 9], [0u8; 1], [0i64; 9]);
     let number = TableColumn::of(&mut numbers).with_bits(&mut bits);
@@ -251,7 +292,7 @@ fn shown_for_debugging_tables_have_no_addresses() {
     let shown = "TableColumn { items: u8, room: 8, has_bits: true, format: ";
     assert_eq!(format!("{number:?}"), format!("{shown}{standard:?} }}"));
     let amount = format!("{:?}", TableColumn::of_fixed(&mut cents, &amount));
-    assert!(amount.ends_with(", places: 2, point: 44, takes_fewer: 0 }"), "{amount}");
+    assert!(amount.ends_with(", places: 2, point: b',', takes_fewer: false }"), "{amount}");
     let texts = format!("{:?}", TableColumn::of_texts(&mut [CellText::NONE; 3]));
     assert_eq!(texts, "TableColumn { items: text, room: 3, has_bits: false }");
     assert_eq!(format!("{:?}", TableColumn::UNREAD), "UNREAD");
