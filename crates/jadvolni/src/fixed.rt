@@ -243,10 +243,10 @@ fn fixed_fewer<T: Integer, S: Slot<T>>(text: &[u8], fields: &FixedFields, value:
     }
 }
 
-// Whether a text may be read with fewer places, and isn't so short that it was tried: behind a sign it has nine to sixteen bytes.
+// Whether a text may be read with fewer places, and isn't so short that it was tried: behind a sign it has up to sixteen bytes.
 #[inline(always)]
-fn may_lack_places(text: &[u8], fields: &FixedFields) -> bool {
-    fields.takes_fewer != 0 && text.len() > 8 && text.len() <= 17
+fn may_lack_places<T: Integer>(text: &[u8], fields: &FixedFields) -> bool {
+    fields.takes_fewer != 0 && text.len() <= 17 && (T::BITS > 64 || text.len() > 8)
 }
 
 // The whole text, under a plain description, for a text without all places or one that isn't short. Out of line, so that a short
@@ -257,7 +257,7 @@ fn fixed_plain<T: Integer, S: Slot<T>>(text: &[u8], fields: &FixedFields, value:
     ensures { effect result (S.number value.new)
         ≡ fixed_call fields.now T.TYPE text.now (S.number value.old) }
 {
-    if may_lack_places(text, fields) {
+    if may_lack_places::<T>(text, fields) {
         return fixed_fewer::<T, S>(text, fields, value);
     }
     fixed_long::<T, S>(text, fields, value)

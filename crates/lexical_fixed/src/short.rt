@@ -197,15 +197,19 @@ pub fn value_if_short<T: Integer>(text: &[u8], format: &FixedFormat) -> Option<T
     value_around::<T>(digits, place, is_negative)
 }
 
-/// The number that the whole text stands for, for the texts that `value_if_short` reads, and for most of up to eight bytes with
-/// fewer digits behind the point than there are places, or without a point, if the description takes that. `None` says nothing of
-/// the text.
+/// The number that the whole text stands for, for the texts that `value_if_short` reads, and in 32 or 64 bits for most of up to
+/// eight bytes with fewer digits behind the point than there are places, or without a point, if the description takes that. `None`
+/// says nothing of the text.
 #[inline(always)]
 pub fn value_if_common<T: Integer>(text: &[u8], format: &FixedFormat) -> Option<T>
     requires valid { IsNone (fixed_fault format.now) }
     ensures { IfSome result
         (λ units. complete_fixed format.now T.TYPE text.now ≡ Ok (T.number units)) }
 {
+    // A product of 128 bits takes registers from the texts with all places.
+    if T::BITS > 64 {
+        return value_if_short::<T>(text, format);
+    }
     // The law by which the front has a digit.
     front_digits();
     if !is_bare(format.integer()) || text.is_empty() {
