@@ -14,8 +14,8 @@ use crate::format::FormatFields;
 use crate::outcome::{Outcome, UNKNOWN_FIELD, status_of};
 use crate::slot::Slot;
 use lexical_fixed::quick::{
-    complete_if_long, complete_if_not_short, front_at_once, partial_if_left, value_if_fewer,
-    value_if_short,
+    complete_if_long, complete_if_not_short, front_at_once, partial_if_left, value_if_common,
+    value_if_fewer,
 };
 use lexical_fixed::{FixedFormat, FixedFormatError};
 use lexical_parse_integer::NumberFormat;
@@ -243,8 +243,11 @@ fn fixed_fewer<T: Integer, S: Slot<T>>(text: &[u8], fields: &FixedFields, value:
     }
 }
 
-// How many bytes a text has at most that may be read with fewer places: a sign, and sixteen digits.
-const MOST_OF_FEWER: usize = 17;
+// Whether a text may be read with fewer places, and isn't so short that it was tried: behind a sign it has up to sixteen bytes.
+#[inline(always)]
+fn may_lack_places<T: Integer>(text: &[u8], fields: &FixedFields) -> bool {
+    fields.takes_fewer != 0 && text.len() <= 17 && (T::BITS > 64 || text.len() > 8)
+}
 
 // The whole text, under a plain description, for a text without all places or one that isn't short. Out of line, so that a short
 // text pays for no choice.
@@ -254,7 +257,7 @@ fn fixed_plain<T: Integer, S: Slot<T>>(text: &[u8], fields: &FixedFields, value:
     ensures { effect result (S.number value.new)
         ≡ fixed_call fields.now T.TYPE text.now (S.number value.old) }
 {
-    if fields.takes_fewer != 0 && text.len() <= MOST_OF_FEWER {
+    if may_lack_places::<T>(text, fields) {
         return fixed_fewer::<T, S>(text, fields, value);
     }
     fixed_long::<T, S>(text, fields, value)
@@ -269,7 +272,7 @@ pub fn fixed<T: Integer, S: Slot<T>>(text: &[u8], fields: &FixedFields, value: &
     if !fields.is_plain() {
         return fixed_any::<T, S>(text, fields, value);
     }
-    match value_if_short::<T>(text, &fields.plain()) {
+    match value_if_common::<T>(text, &fields.plain()) {
         Some(number) => store(Ok(number), text.len(), value),
         None => fixed_plain::<T, S>(text, fields, value),
     }

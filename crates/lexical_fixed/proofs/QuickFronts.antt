@@ -45,6 +45,28 @@ no_point f text place none =
     by_test true = refl
     by_test false = refl
 
+-- nor is there one where no digit stands behind the point, if fewer places are taken
+pub no_digits : (f : Fixed) (text : List ℕ) (place number : ℕ) → are_same (Some f.point) (slice_get text place) ≡ true → WritesFirst (slice_range text (place + 1) (length text)) number 0
+    → f.takes_fewer ≡ true → IsFraction f text place 0 0
+unfolding has_point_at fraction_length is_cut front_end whole_end digits_from
+no_digits f text place number some first takes =
+    let w : WritesFirst (drop (place + 1) text) number 0 = subst (λ (bytes : List ℕ). WritesFirst bytes number 0) (rest_is text (place + 1)) first in
+    let found : digits_from text (place + 1) ≡ 0 = prefix_is (drop (place + 1) text) 0 w.within tt (w.stops (omega arith)) in
+    let counted : fraction_length f text place ≡ 0 = by_test (has_point_at f text place) found in
+    record {
+      few = omega arith;
+      counted = counted;
+      size = ap (λ n. length (take n (drop (place + 1) text))) counted;
+      worth = sym (ap (λ n. word_value 10 (take n (drop (place + 1) text))) counted);
+      small = omega arith;
+      uncut = rw some (ap (nat_lt f.places) found ∙ le-ltb f.places 0 (omega arith));
+      ends = rw counted (rw takes refl);
+    }
+  where
+    by_test : (b : Bool) → digits_from text (place + 1) ≡ 0 → cond b (min f.places (digits_from text (place + 1))) 0 ≡ 0
+    by_test true found = ap (min f.places) found ∙ min-eq_right (omega arith)
+    by_test false found = refl
+
 -- a few digits behind the point, and none behind them
 pub few_digits : (f : Fixed) (text : List ℕ) (place number count : ℕ) → are_same (Some f.point) (slice_get text place) ≡ true → WritesFirst (slice_range text (place + 1) (length text)) number count
     → 1 ≤ count → count < 8 → count ≤ f.places → number < 100000000 → IsFraction f text place number count

@@ -202,6 +202,14 @@ filled_read f t b text digits units valid bare law behind minus it =
     point_read f t b text digits it.place it.count it.digits.number it.written units (f.places - it.count) valid bare (law (is_none f.integer.digit_separator bare.no_separator)) behind minus it.point it.digits.joined it.digits.worth it.digits.fits
     refl (inr it.takes) (inr (it.filled, it.fits))
 
+-- a value that was found, with zeros for places that lack
+pub filled_found : {V : Type 0} (number_of : V → ℤ) (f : Fixed) (t : IntegerType) (b : Bool) (digits : List ℕ) (place count : ℕ) (written : ℤ) (found : Option V) → f.takes_fewer ≡ true
+    → IsLastPoint f digits place count → IsValueWithout t b place digits written → IfSome found (λ v. number_of v ≡ mul_add b written (pos (10 ^ (f.places - count))) (pos 0))
+    → IfSome found (λ v. is_number t (number_of v) ≡ true) → IfSome found (λ v. IsFilled f t b digits (number_of v) ⊎ IsFilledWhole f t b digits (number_of v))
+filled_found number_of f t b digits place count written None takes at is filled fits = tt
+filled_found number_of f t b digits place count written (Some v) takes at is filled fits =
+    inl record { place = place; count = count; written = written; takes = takes; point = at; digits = is; filled = filled; fits = fits }
+
 -- ---- digits without a point
 
 -- digits that stand for a value are digits
@@ -235,6 +243,13 @@ whole_read f t b text digits units valid bare law behind minus it =
     let fits : is_number t next ≡ true = ap (is_number t) same ∙ it.stands.fits in
     let joined_front = front_joined f t text v next units (start + size) 0 0 f.places b minus sign fraction refl fits (omega arith) (inr it.takes) (inr (filled, it.fits)) in
     complete_by_front f t text units (partial_by_part f t text v (start + size) part ∙ joined_front ∙ ap (λ k. Ok (units, k)) (ends_at_end f text (start + size) end))
+
+-- either is the number of the text
+pub fewer_read : (f : Fixed) (t : IntegerType) (b : Bool) (text digits : List ℕ) (units : ℤ) → IsNone (fixed_fault f) → IsBare f.integer
+    → (IsNone f.integer.digit_separator → IsNone f.integer.base_suffix → TellsDigits f.integer t text)
+    → IsBehind b t text digits → b ≡ is_negative t text → IsFilled f t b digits units ⊎ IsFilledWhole f t b digits units → complete_fixed f t text ≡ Ok units
+fewer_read f t b text digits units valid bare law behind minus (inl it) = filled_read f t b text digits units valid bare law behind minus it
+fewer_read f t b text digits units valid bare law behind minus (inr it) = whole_read f t b text digits units valid bare law behind minus it
 
 -- ---- three bytes
 

@@ -17,7 +17,7 @@ use crate::format::FixedFormat;
 use crate::fraction::stands_at;
 use crate::parse::is_negative;
 pub use crate::parse::{complete_if_long, complete_if_not_short, partial_if_left};
-pub use crate::short::{value_at_once, value_if_fewer, value_if_short};
+pub use crate::short::{value_at_once, value_if_common, value_if_fewer, value_if_short};
 use lexical_digits::fronts::number_in_front;
 use lexical_parse_integer::laws::grammar::front_digits;
 use lexical_parse_integer::quick::front_if_plain;
@@ -25,7 +25,7 @@ use lexical_parse_integer::stops_after_digit;
 use lexical_util::num::Integer;
 
 // The number of the fraction and how many digits it has, if these are one to seven. Both are 0
-// without a point.
+// without a point, and where the description lets a point stand behind the front.
 #[inline(always)]
 fn short_fraction(text: &[u8], format: &FixedFormat, place: usize) -> Option<(u32, usize)>
     requires { place ≤ length text.now }
@@ -40,6 +40,9 @@ fn short_fraction(text: &[u8], format: &FixedFormat, place: usize) -> Option<(u3
         return None;
     }
     let (number, count) = number_in_front(rest);
+    if count == 0 && format.takes_fewer() {
+        return Some((0, 0));
+    }
     if count == 0 || count > 7 || count > format.places() {
         return None;
     }

@@ -1,6 +1,6 @@
 // The shortest ways: a whole text of some digits and a point, as most amounts are, with all places behind it, or fewer where the
 // description takes that. `None` says nothing of the text.
-ghost use Rattle.std.specs.Prelude.{◌≡◌, ◌+◌, ◌<◌, ◌≤◌, IfSome, IsNone, IsTrue, Ok, length, true};
+ghost use Rattle.std.specs.Prelude.{◌≡◌, ◌+◌, ◌<◌, ◌≤◌, ◌⊎◌, IfSome, IsNone, IsTrue, Ok, length};
 ghost use Rattle.lexical_parse_integer.specs.Plain.{IsBehind};
 ghost use Rattle.lexical_fixed.specs.Grammar.{complete_fixed, is_negative};
 ghost use Rattle.lexical_fixed.specs.Quick.{IsBare, IsFilled, IsFilledWhole, IsLastPoint, IsValueWithout};
@@ -34,7 +34,7 @@ fn point_before(digits: &[u8], format: &FixedFormat, least: usize, count: usize)
     ensures many { IfSome result (λ place. least ≤ length digits.now) }
 {
     let size = digits.len();
-    if size < least || size > 16 || count == 0 || count > 7 || count > size - 2 {
+    if size < least || size > 16 || count == 0 || count > size - 2 || count > 7 {
         return None;
     }
     let place = size - 1 - count;
@@ -144,48 +144,37 @@ fn value_by_point<T: Integer>(digits: &[u8], place: usize, is_negative: bool) ->
     value_around::<T>(digits, place, is_negative)
 }
 
-// The number in units of digits with fewer behind the point than there are places, if the description takes that.
+// The number in units of digits with fewer behind the point than there are places, or without a point, if the description takes
+// that.
 #[inline(always)]
 fn value_of_fewer<T: Integer>(digits: &[u8], format: &FixedFormat, is_negative: bool) -> Option<T>
-    requires bits { 32 ≤ T.TYPE.bits }
     requires minus { IsTrue is_negative → IsTrue T.TYPE.is_signed }
-    requires takes { format.now.takes_fewer ≡ true }
     ensures { IfSome result
-        (λ value. IsFilled format.now T.TYPE is_negative digits.now (T.number value)) }
+        (λ value. IsFilled format.now T.TYPE is_negative digits.now (T.number value)
+        ⊎ IsFilledWhole format.now T.TYPE is_negative digits.now (T.number value)) }
 {
     let places = format.places();
-    if places > 9 {
+    let size = digits.len();
+    if T::BITS < 32 || size == 0 || size > 16 || places > 9 || !format.takes_fewer() {
         return None;
     }
-    let mut count = places;
-    while count > 1 {
-        count -= 1;
-        if let Some(place) = point_before(digits, format, 3, count) {
-            let Some(written) = value_by_point::<T>(digits, place, is_negative) else {
+    let mut count = 1;
+    while count < places && count + 2 <= size {
+        if digits[size - 1 - count] == format.point() {
+            if count > 7 {
+                return None;
+            }
+            let Some(written) = value_by_point::<T>(digits, size - 1 - count, is_negative) else {
                 return None;
             };
             return append_number::<T>(written, 0, places - count, is_negative);
         }
-    }
-    None
-}
-
-// The number in units of up to sixteen digits without a point, if the description takes that.
-#[inline(always)]
-fn value_of_whole<T: Integer>(digits: &[u8], format: &FixedFormat, is_negative: bool) -> Option<T>
-    requires bits { 32 ≤ T.TYPE.bits }
-    requires minus { IsTrue is_negative → IsTrue T.TYPE.is_signed }
-    requires takes { format.now.takes_fewer ≡ true }
-    ensures { IfSome result
-        (λ value. IsFilledWhole format.now T.TYPE is_negative digits.now (T.number value)) }
-{
-    if digits.is_empty() || digits.len() > 16 || format.places() > 9 {
-        return None;
+        count += 1;
     }
     let Some(written) = value_to_16::<T>(digits, is_negative) else {
         return None;
     };
-    append_number::<T>(written, 0, format.places(), is_negative)
+    append_number::<T>(written, 0, places, is_negative)
 }
 
 /// The number that the whole text stands for, for most texts of three to fifteen digits around a point, with all places, which
@@ -208,6 +197,37 @@ pub fn value_if_short<T: Integer>(text: &[u8], format: &FixedFormat) -> Option<T
     value_around::<T>(digits, place, is_negative)
 }
 
+/// The number that the whole text stands for, for the texts that `value_if_short` reads, and in 32 or 64 bits for most of up to
+/// eight bytes with fewer digits behind the point than there are places, or without a point, if the description takes that. `None`
+/// says nothing of the text.
+#[inline(always)]
+pub fn value_if_common<T: Integer>(text: &[u8], format: &FixedFormat) -> Option<T>
+    requires valid { IsNone (fixed_fault format.now) }
+    ensures { IfSome result
+        (λ units. complete_fixed format.now T.TYPE text.now ≡ Ok (T.number units)) }
+{
+    // A product of 128 bits takes registers from the texts with all places.
+    if T::BITS > 64 {
+        return value_if_short::<T>(text, format);
+    }
+    // The law by which the front has a digit.
+    front_digits();
+    if !is_bare(format.integer()) || text.is_empty() {
+        return None;
+    }
+    let (is_negative, digits) = behind_minus::<T>(text);
+    if digits.len() > 8 {
+        let Some(place) = point_before(digits, format, 4, format.places()) else {
+            return None;
+        };
+        return value_from_9::<T>(digits, place, is_negative);
+    }
+    if let Some(place) = point_before(digits, format, 4, format.places()) {
+        return value_from_4::<T>(digits, place, is_negative);
+    }
+    value_of_fewer::<T>(digits, format, is_negative)
+}
+
 /// The number that the whole text stands for, for most texts of up to sixteen bytes, with fewer digits behind the point than there
 /// are places, or without a point, if the description takes that. `None` says nothing of the text.
 #[inline(always)]
@@ -219,14 +239,11 @@ pub fn value_if_fewer<T: Integer>(text: &[u8], format: &FixedFormat) -> Option<T
 {
     // The law by which the front has a digit.
     front_digits();
-    if T::BITS < 32 || !format.takes_fewer() || text.is_empty() {
+    if text.is_empty() {
         return None;
     }
     let (is_negative, digits) = behind_minus::<T>(text);
-    if let Some(units) = value_of_fewer::<T>(digits, format, is_negative) {
-        return Some(units);
-    }
-    value_of_whole::<T>(digits, format, is_negative)
+    value_of_fewer::<T>(digits, format, is_negative)
 }
 
 /// The number that the whole text stands for, for most texts of two to fifteen digits around a point, with all places, which are

@@ -1,15 +1,9 @@
 use Rattle.lexical_digits.proofs.LongNumbers.{if_found}
-use Rattle.lexical_fixed.proofs.ShortNumbers.{filled_read, whole_read}
+use Rattle.lexical_fixed.proofs.ShortNumbers.{fewer_read}
 use Rattle.lexical_fixed.proofs.short.value_if_fewer.Goals as goal
-
-pub returns-in-Some : goal.returns-in-Some
-returns-in-Some g c =
-    filled_read c.args.format.now g.T.Integer.TYPE _ c.args.text.now _ (g.T.Integer.number c.in-Some.units) c.requires.valid
-    c.requires.bare (c.front_digits.ensures c.args.format.now.integer g.T.Integer.TYPE c.args.text.now)
-    c.behind_minus-is_negative.ensures.behind c.behind_minus-is_negative.ensures.minus c.in-Some.ensures
 
 pub returns : goal.returns
 returns g c =
-    if_found c.value_of_whole.result (λ units it. whole_read c.args.format.now g.T.Integer.TYPE _ c.args.text.now _ (g.T.Integer.number units) c.requires.valid
+    if_found c.value_of_fewer.result (λ units it. fewer_read c.args.format.now g.T.Integer.TYPE _ c.args.text.now _ (g.T.Integer.number units) c.requires.valid
     c.requires.bare (c.front_digits.ensures c.args.format.now.integer g.T.Integer.TYPE c.args.text.now)
-    c.behind_minus-is_negative.ensures.behind c.behind_minus-is_negative.ensures.minus it) c.value_of_whole.ensures
+    c.behind_minus-is_negative.ensures.behind c.behind_minus-is_negative.ensures.minus it) c.value_of_fewer.ensures

@@ -1,9 +1,9 @@
-use Rattle.std.proofs.Common.{◌≤◌}
+use Rattle.std.proofs.Common.{◌≤◌, ◌-◌}
 use Rattle.lexical_fixed.proofs.short.value_of_fewer.Given as goal
 
--- a count is one of the places
+-- a digit stands behind the point
 abbrev pub invariant-loop-count : goal.invariant-loop-count
-invariant-loop-count g l = l.count ≤ l.places
+invariant-loop-count g l = 1 ≤ l.count
 
 abbrev pub decreases-loop-count : goal.decreases-loop-count
-decreases-loop-count g l = l.count
+decreases-loop-count g l = l.places - l.count
