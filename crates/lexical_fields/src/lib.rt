@@ -24,8 +24,7 @@ pub use columns::{Column, ColumnError, read_column};
 pub use iterator::{Field, Fields};
 pub use lines::{LineColumn, line_column};
 pub use marked::{
-    next_marks, number_of_front, number_to_12, split_marked, value_in_front,
-    value_of_front,
+    next_marks, number_of_front, number_to_12, split_marked, value_in_front, value_of_front,
 };
 pub use parts::{read_column_part, reads_in_parts, whole_fields};
 pub use places::error_in_text;

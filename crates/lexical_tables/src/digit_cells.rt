@@ -186,5 +186,12 @@ pub(crate) fn read_coded<C: TableColumn, const HAS_QUOTES: bool, const HAS_CALLS
         return code == NOT_READ && shows_no_fault(ahead, size, HAS_QUOTES);
     }
     let (held, count) = within_quotes(ahead, size, HAS_QUOTES);
-    put_found(target, code, row, held, count, coded_number(code, held, count))
+    put_found(
+        target,
+        code,
+        row,
+        held,
+        count,
+        coded_number(code, held, count),
+    )
 }

@@ -67,7 +67,7 @@ fn stopped_at(
     is_done: bool,
 ) -> Stopped<'_>
     ensures { result ≡ record {
-      row = record { index = index; start = start; column = column; left = left.entry; };
+      row = record { index = index; start = start; column = column; left = left.entry };
       is_done = is_done;
     } }
 {

@@ -1,4 +1,4 @@
-use Rattle.std.proofs.Common.{◌≡◌, ◌<◌, ◌^◌, refl, subst, take}
+use Rattle.std.proofs.Common.{subst, take}
 use Rattle.std.specs.Prelude.{IfSome}
 use Rattle.lexical_util.specs.Format.{Format}
 use Rattle.lexical_tables.specs.Codes.{IsDecimal, IsNumeralUnder, has_zero_rule}

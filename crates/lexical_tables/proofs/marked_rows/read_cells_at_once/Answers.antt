@@ -1,4 +1,4 @@
-use Rattle.std.proofs.Common.{ℕ, List, Option, ◌≡◌, ◌∙◌, ◌+◌, ◌-◌, ◌<◌, ◌≤◌, None, ap, arith, drop, length, length-drop, map, refl, subst, sym, take}
+use Rattle.std.proofs.Common.{◌≡◌, ◌∙◌, ◌+◌, ◌-◌, ◌<◌, ◌≤◌, None, ap, arith, drop, length, length-drop, map, refl, subst, sym, take}
 use Rattle.std.proofs.lemmas.Bool.Decides.{nat_tests}
 use Rattle.std.proofs.lemmas.List.{take_all}
 use Rattle.lexical_tables.specs.ByColumn.{AreUsable, answer_at, kinds_of}
@@ -6,7 +6,6 @@ use Rattle.lexical_fields.specs.Fields.{FieldView}
 use Rattle.lexical_tables.specs.Codes.{AreCodes}
 use Rattle.lexical_tables.specs.Ends.{AreEnds}
 use Rattle.lexical_tables.specs.RowSoFar.{GoesOn, GoesToEnd, IsOnRow, IsPart, count_in}
-use Rattle.lexical_tables.specs.Targets.{TargetView}
 use Rattle.lexical_tables.proofs.CodeSteps.{codes_put}
 use Rattle.lexical_tables.proofs.ColumnSteps.{next_cell_goes, next_row, last_cell_goes}
 use Rattle.lexical_tables.proofs.PassSteps.{row_begins}
@@ -93,8 +92,7 @@ loop-column-preserved-then-part g c =
     (use_put (c.args.last + 1) row.index row.column _ before c.loop-column.invariant.3) in
     let some : 0 < length behind = grind (arith, nat_tests) in
     let within : length behind ≤ length text = omega (arith, passed, inside, size) in
-    let two : row.index + 2 ≤ c.args.last + 1 = grind (arith, nat_tests) in
-    (
+    let two : row.index + 2 ≤ c.args.last + 1 = grind (arith, nat_tests) in (
       subst (λ t. IsOnRow d s t behind) same (row_begins d s c.requires.marked 0 behind),
       subst (λ l. AreEnds d.has_quotes s l c.behind_part-left.result.marks) (sym back)
           (subst (AreEnds d.has_quotes s (drop (part.result.end + 1) left)) (sym c.behind_part-left.ensures.marks) part.ensures.ends),
