@@ -69,7 +69,7 @@ test("records", () => {
   checkFault("0110\n2", ["u8", "u8"], table, { row: 1, line: 0, column: 0, place: 4, text: "0\n" },
     'row 2, column 1: "0\\n": invalid digit at byte 1 of the cell');
   checkFault("011\n\n", [null, "u8"], table, { row: 1, line: 2, column: 1, place: 5, text: "" },
-    "row 2: too few cells, none for column 2");
+    "row 2: too few cells, none for column 2; the row has 2 of the 3 bytes of its widths");
 });
 
 // What a message adds about a line that ends before its widths do.
