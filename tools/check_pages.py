@@ -32,8 +32,8 @@ import source
 
 MOST_WORDS = 10500
 BUDGETS = {
-    "README.md": 830, "CONTRIBUTING.md": 695, "CHANGELOG.md": 115, "docs/ARCHITECTURE.md": 1430,
-    "docs/DECISIONS.md": 1380, "docs/DIFFERENCES.md": 1075, "docs/GRAMMAR.md": 1720,
+    "README.md": 830, "CONTRIBUTING.md": 695, "CHANGELOG.md": 115, "docs/ARCHITECTURE.md": 1440,
+    "docs/DECISIONS.md": 1370, "docs/DIFFERENCES.md": 1075, "docs/GRAMMAR.md": 1720,
     "docs/PERF.md": 1200, "docs/PROOFS.md": 1640, "docs/RELEASING.md": 255, "docs/SPEED.md": 445,
 }
 # The pages that a tool writes whole. A further page of docs/ has to be in one of the two lists.
