@@ -214,13 +214,20 @@ def checked(found: dict[str, str], faults: list[str]) -> str:
     return f"{len(found)} documents looked at, {len(old)} old; {check_pages.said(found)}"
 
 
-def written(found: dict[str, str]) -> str:
-    """Writes what is old, and says how many documents that were."""
-    wanted = presets.files(TOP, found)
-    old = old_ones(TOP, wanted)
+def write(top: str, wanted: dict[str, str]) -> list[str]:
+    """Writes the files that are old, and returns their names."""
+    old = old_ones(top, wanted)
     for path in old:
-        source.write(os.path.join(TOP, path), wanted[path])
-    return f"{len(wanted)} files looked at, {len(old)} written"
+        source.write(os.path.join(top, path), wanted[path])
+    return old
+
+
+def written(top: str, faults: list[str]) -> str:
+    """Writes what is old, and says how many files that were. Documents quote lists of fields in the
+    source, so these come first."""
+    old = write(top, presets.files(top, {}))
+    wanted = presets.files(top, documents(top, faults))
+    return f"{len(wanted)} files looked at, {len({*old, *write(top, wanted)})} written"
 
 
 def main(arguments: list[str]) -> int:
@@ -228,12 +235,11 @@ def main(arguments: list[str]) -> int:
         print(__doc__)
         return 2
     faults: list[str] = []
-    found = documents(TOP, faults)
     if arguments == ["--words"]:
-        counts = check_pages.counts_of(found)
+        counts = check_pages.counts_of(documents(TOP, faults))
         print("\n".join(f"{count:6} {page}" for page, count in counts.items()))
         return 0
-    said = checked(found, faults) if arguments else written(found)
+    said = checked(documents(TOP, faults), faults) if arguments else written(TOP, faults)
     print("\n".join([*faults, said]))
     return 1 if faults else 0
 

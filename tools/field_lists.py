@@ -233,6 +233,14 @@ def in_bits(fields: list[Field]) -> str:
                      for place, it in enumerate(fields) if it.kind != "radix")
 
 
+def in_counted(fields: list[Field]) -> str:
+    """The setters of the program of bench/calls, which is given a byte for each field."""
+    values = {"radix": "bytes[{}]", "punctuation": "punctuation(bytes[{}])",
+              "flag": "bytes[{}] != 0"}
+    return "".join(f"        .{field.name}({values[field.kind].format(place)})\n"
+                   for place, field in enumerate(fields))
+
+
 BYTES = alike("    pub {it.name}: u8,\n")
 SAME_NAMES = alike("      {it.name} = a.{it.name};\n")
 HEADER, OF_SYS = "include/jadvolni.h", "bindings/rust/jadvolni-sys/src/lib.rs"
@@ -243,6 +251,7 @@ OF_C, OF_RATTLE = "crates/jadvolni/src/format.rt", "crates/lexical_util/src/form
 OF_PYTHON = "bindings/python/src/jadvolni/_format.py"
 OF_RUST = "bindings/rust/jadvolni/src/format.rs"
 SLOW = "crates/rows/src/tests/formats.rt"
+COUNTED = "crates/calls/src/"
 FLAGS = "crates/library_tests/src/tests/util/formats.rt"
 REGIONS = [
     Region(OF_RATTLE, "    pub(super) mantissa_radix: u8,\n", "    // These stand last",
@@ -299,6 +308,8 @@ REGIONS = [
            lambda fields: str(sum(it.kind == "flag" for it in fields))),
     Region(FLAGS, "[bool; FLAGS] {\n    [\n", "    ]", each(flag="        format.{it.name}(),\n")),
     Region(FLAGS, "    let each = [\n", "    ]", each(flag="        bare.{it.name}(true),\n")),
+    Region(COUNTED + "format.rt", "    NumberFormatBuilder::new()\n", "        .build_unchecked()",
+           in_counted),
     Region("bindings/js/format.d.ts", "export interface Fields {\n", "}\n", in_types),
     Region("tools/reference.py", "those of the standard one.\"\"\"\n\n", "\n\nSTANDARD = ",
            in_dataclass("Optional[int]")),
@@ -339,6 +350,12 @@ for kind, value in ("punctuation", "Option ℕ"), ("flag", "Bool"):
                        end.format(), each(**{kind: line}))
                 for file, begin, end, line in OF_KINDS]
 
+# How many fields there are, in the programs of bench/calls.
+COUNTS = [Region(file, begin, end, lambda fields: str(len(fields))) for file, begin, end in (
+    (COUNTED + "case.rt", "const FORMAT_SIZE: usize = ", ";"),
+    (COUNTED + "format.rt", "format_of(bytes: &[u8; ", "]"),
+    ("bench/driver/calls.cpp", "    auto numbers = numbers_in<", ">"))]
+
 
 SWITCH = "(uint32_t status)\n{\n    switch (status) {\n"
 OF_STATUSES = [
@@ -365,6 +382,6 @@ def fill(top: str, found: dict[str, str], regions: list[Region], listed: list[Fi
 def files(top: str, found: dict[str, str]) -> dict[str, str]:
     """The text of each file that lists the fields or the statuses, as it has to be."""
     found = dict(found)
-    fill(top, found, REGIONS, fields_of(top))
+    fill(top, found, REGIONS + COUNTS, fields_of(top))
     fill(top, found, OF_STATUSES, statuses_of(top))
     return found

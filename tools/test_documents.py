@@ -7,6 +7,7 @@ nowhere, a page that is too long. What is written well shows in the pages of the
 from __future__ import annotations
 
 import os
+import shutil
 import sys
 import tempfile
 import unittest
@@ -17,6 +18,7 @@ import calls_page  # noqa: E402
 import check_pages  # noqa: E402
 import documents  # noqa: E402
 import field_lists  # noqa: E402
+import presets  # noqa: E402
 
 SOURCE = """//! Halves of numbers.
 #![tactic(auto)]
@@ -188,6 +190,21 @@ class OfFields(unittest.TestCase):
         for region in field_lists.REGIONS[:5]:
             self.assertIn("later_flag", region.written([more]), region.file)
         self.assertIn("/* Flag: what is to come. */", field_lists.in_c([more]))
+
+    def test_a_field_more_is_written_at_once(self) -> None:
+        with tempfile.TemporaryDirectory(prefix="test-documents-") as top:
+            for path in documents.files_of(documents.TOP):
+                os.makedirs(os.path.dirname(os.path.join(top, path)), exist_ok=True)
+                shutil.copy(os.path.join(documents.TOP, path), os.path.join(top, path))
+            with open(os.path.join(top, field_lists.LIST), "a", encoding="utf-8") as file:
+                file.write("later_flag | flag | later | What is to come.\n")
+            faults: list[str] = []
+            documents.written(top, faults)
+            wanted = presets.files(top, documents.documents(top, faults))
+            self.assertEqual((faults, documents.old_ones(top, wanted)), ([], []))
+            for it in field_lists.COUNTS:
+                count = wanted[it.file].split(it.begin)[1].split(it.end)[0]
+                self.assertEqual(count, str(len(field_lists.fields_of(top))), it.file)
 
 
 class OfCalls(unittest.TestCase):
