@@ -156,6 +156,20 @@ static PyObject *dtype_name(PyObject *type)
     return NULL;
 }
 
+/* What follows a message on the name of no integer type, if it names another kind of type. */
+static const char *instead_of(PyObject *name)
+{
+    static const char *const texts[] = {"str", "string", "text", "Text", "object"};
+    static const char *const amounts[] = {"float", "float32", "float64", "decimal", "Decimal", "Fixed"};
+    for (size_t k = 0; k < sizeof texts / sizeof *texts; k++)
+        if (PyUnicode_CompareWithASCIIString(name, texts[k]) == 0)
+            return ": texts of a table have the type jadvolni.Text()";
+    for (size_t k = 0; k < sizeof amounts / sizeof *amounts; k++)
+        if (PyUnicode_CompareWithASCIIString(name, amounts[k]) == 0)
+            return ": amounts have the type jadvolni.Fixed(places=2)";
+    return "";
+}
+
 const number_type *type_of(PyObject *type)
 {
     if (!type)
@@ -171,8 +185,8 @@ const number_type *type_of(PyObject *type)
     if (name && !found)
         PyErr_Format(PyExc_ValueError,
                      "type has to be u8, u16, u32, u64, u128, usize, i8, i16, i32, i64, i128 or "
-                     "isize, and not %R",
-                     type);
+                     "isize, and not %R%s",
+                     type, instead_of(name));
     Py_XDECREF(name);
     return found;
 }

@@ -10,8 +10,8 @@ import sys
 import tracemalloc
 import unittest
 
-from jadvolni import (Format, FormatError, ParseError, parse, parse_column, parse_front,
-                      parse_partial, parse_table)
+from jadvolni import (Fixed, Format, FormatError, ParseError, Text, parse, parse_column,
+                      parse_front, parse_partial, parse_table)
 
 CALLS = (parse, parse_front, parse_partial, parse_column)
 
@@ -150,6 +150,11 @@ class Arguments(unittest.TestCase):
             with self.subTest(type=other):
                 wanted = "^type has to be u8, u16, .* or isize, and not <class '"
                 self.assertRaisesRegex(ValueError, wanted, parse, "1", other)
+        for other, wanted in (("text", "texts"), (str, "texts"), (Text, "texts"),
+                              ("float64", "amounts"), (Fixed, "amounts")):
+            with self.subTest(type=other):
+                wanted = rf"^type has to be u8, .*: {wanted} .* the type jadvolni\.\w+\(.*\)$"
+                self.assertRaisesRegex(ValueError, wanted, parse_table, "1", {"a": other})
         wanted = "^type has to have 64 bits or fewer in a column, and not u128$"
         self.assertRaisesRegex(ValueError, wanted, parse_column, "1", "u128")
 

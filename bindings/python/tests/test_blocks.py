@@ -120,7 +120,8 @@ class Blocks(unittest.TestCase):
         for size in ("5", None, 5.0):
             with self.assertRaisesRegex(TypeError, "size has to be an integer, and not"):
                 self.numbers(b"1", size=size)
-        with self.assertRaisesRegex(TypeError, 'file has to be one opened by "rb", and not str'):
+        wanted = r'^file has to be one opened by "rb", and not str: open\(path, "rb"\) opens one$'
+        with self.assertRaisesRegex(TypeError, wanted):
             next(iter_column("numbers.txt"))
         for separator in (b"", b"ab"):
             with self.assertRaises(ValueError):

@@ -53,8 +53,11 @@ def too_long(what: str, size: int, quote: Optional[int] = None) -> ValueError:
 def _block(file: File, size: int) -> bytes:
     """The next bytes of a file, or none at its end."""
     if not hasattr(file, "read"):
-        known = isinstance(file, (bytes, bytearray, memoryview))
-        hint = ": parse_table and parse_column read what is in memory" if known else ""
+        hint = ""
+        if isinstance(file, (bytes, bytearray, memoryview)):
+            hint = ": parse_table and parse_column read what is in memory"
+        elif isinstance(file, (str, os.PathLike)):
+            hint = ": open(path, \"rb\") opens one"
         raise TypeError(f"file has to be one opened by \"rb\", and not {type(file).__name__}{hint}")
     block = _some(file.read(size))
     if isinstance(block, bytes):
