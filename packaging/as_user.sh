@@ -108,6 +108,9 @@ echo "passed: wheel: $(sed -n '/^Ran/p' wheel.log)"
 
 if [ "${2:-}" != packages ] || ! given deb; then exit; fi
 all() { find / -xdev \( -path /proc -o -path "$PWD" -o -path /tmp -o -path /var -o -name __pycache__ \) -prune -o -print | sort; }
+ours='libjadvolni-dev libjadvolni0 lexint python3-jadvolni'
+# shellcheck disable=SC2086 # (several words)
+dpkg -r $ours > dpkg.log 2>&1 # (what a run that failed has left)
 all > before
 dpkg -i ./*.deb > dpkg.log
 callers packages
@@ -123,7 +126,8 @@ for page in "3 jadvolni_parse_u64" "1 lexint" "1 jad"; do
     man $page | grep -q -i jadvolni || { echo "FAILED: packages: man $page" >&2; exit 1; }
 done
 echo "passed: packages: man"
-dpkg -r libjadvolni-dev libjadvolni0 lexint python3-jadvolni > dpkg.log
+# shellcheck disable=SC2086
+dpkg -r $ours > dpkg.log
 all > after
 diff before after
 echo "passed: packages: nothing is left"

@@ -15,7 +15,7 @@ for file in dist/*; do
     printf '%s %s\n' "$(sha256sum "$file" | cut -d ' ' -f 1)" "${file#dist/}"
 done | jq -Rn --arg version "$1" --arg commit "$2" --arg toolchain "$3" --arg verdict "$(cat "$4")" \
     --arg gate "${gate:-not known where this was made}" --arg proved "$crates crates, $edits edits that have to be refused" \
-    --arg compiler "$(cc --version | head -n 1)" --arg linker "$(ld --version | head -n 1)" \
+    --arg compiler "$(${CC:-cc} --version | head -n 1)" --arg linker "$(ld --version | head -n 1)" \
     --arg flags "the toolchain: -O3 for x86-64-v2; cc: CFLAGS='${CFLAGS:-}' LDFLAGS='${LDFLAGS:-}'" \
     --arg created "$(date -u -d "@$SOURCE_DATE_EPOCH" +%Y-%m-%dT%H:%M:%SZ)" '
 def id: "SPDXRef-" + gsub("[^A-Za-z0-9.-]"; "-");

@@ -12,6 +12,11 @@ has() { command -v "$1" > /dev/null || { echo "skipped: there is no $1"; return 
 has_archives() { ls "$2"/*."$1" > /dev/null 2>&1; } # KIND FOLDER
 [ -f dist/SHA256SUMS ] || { echo "make test-dist: there is no dist/SHA256SUMS; make dist writes it" >&2; exit 1; }
 (cd dist && sha256sum --quiet -c SHA256SUMS)
+# An unfinished system is made anew, and nothing else is removed.
+[ -e "$root/made" ] || [ -d "$root/debootstrap" ] || [ -z "$(ls -A "$root" 2> /dev/null)" ] || {
+    echo "make test-dist: ROOT=$root has other files than a system that debootstrap made" >&2
+    exit 1
+}
 
 # Printed first, and not only at the end of a long run.
 lacking=''

@@ -107,6 +107,7 @@ CASES = [
     # From here on the tree has a release of one file, and then a bad line.
     Case("mkdir dist; sha256sum /dev/null > dist/SHA256SUMS; packaging/test_dist.sh",
          "lacks: dist/*.deb (make dist writes them where debhelper and dh-python are)"),
+    Case("env ROOT=docs packaging/test_dist.sh", "ROOT=docs has other files than a system"),
     Case("echo 'x | flag' >> tools/fields.txt; python3 tools/documents.py",
          "tools/fields.txt:25: not as the lines above: x | flag"),
     Case("sed -i '/^x |/d' tools/fields.txt; echo x >> bindings/errors.txt; make -s docs",
