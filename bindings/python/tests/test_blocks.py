@@ -109,6 +109,8 @@ class Blocks(unittest.TestCase):
         column = iter_column(io.BytesIO(TEXT), size=3, progress=stop)
         self.assertEqual(list(next(column)), [12])
         self.assertRaises(InterruptedError, next, column)
+        with self.assertRaisesRegex(TypeError, "^progress has to be a function or None, and not "):
+            next(iter_column(io.BytesIO(TEXT), progress=7))
 
     def test_arguments(self):
         self.assertEqual(self.numbers(b"FF 10", "u16", " ", Format(mantissa_radix=16)), [255, 16])

@@ -161,6 +161,11 @@ class Tables(unittest.TestCase):
         self.assertEqual(lists(next(tables))["day"], [1])
         self.assertRaises(TypeError, next, tables)
         self.assertEqual(list(tables), [])
+        for call in read_table, iter_table:
+            file = io.BytesIO(TEXT)
+            with self.assertRaisesRegex(TypeError, "^progress has to be a function or None, and "):
+                next(iter(call(file, LEDGER, ";", True, progress=True)))
+            self.assertEqual(file.tell(), 0)
 
     def test_types_and_formats(self):
         hexadecimal = Format(mantissa_radix=16)

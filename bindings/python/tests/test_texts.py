@@ -166,7 +166,8 @@ class Sequences(unittest.TestCase):
             with self.assertRaisesRegex(IndexError, "^the column has 3 rows, and none of this"):
                 found[row]
         for row in ("a", 1.0, None):
-            self.assertRaises(TypeError, found.__getitem__, row)
+            with self.assertRaisesRegex(TypeError, "^a row has to be an integer or a slice, and "):
+                found[row]
         self.assertEqual(pickle.loads(pickle.dumps(found)).tolist(), ["a", "bc", ""])
         self.assertEqual(parse_table("", BOTH)["what"].tolist(), [])
 

@@ -43,6 +43,13 @@ def _one_or_more(name: str, value: object) -> int:
     return number
 
 
+def ask_progress(progress: object) -> None:
+    """Asks that what is called after each block can be called."""
+    if progress is not None and not callable(progress):
+        kind = type(progress).__name__
+        raise TypeError(f"progress has to be a function or None, and not {kind}")
+
+
 def too_long(what: str, size: int, quote: Optional[int] = None) -> ValueError:
     """The exception for what has more than `size` bytes. A quote that isn't closed may be why."""
     reason = "; size" if quote is None else (f": the quote at byte {quote} may lack the one that"
@@ -177,6 +184,7 @@ def iter_column(
     if it raises, reading ends.
     """
     size = _one_or_more("size", size)
+    ask_progress(progress)
     parted = bytes_of(separator) if isinstance(separator, str) else separator
     _parse_part(b"", type, parted, format, 0, 0)  # (this refuses wrong arguments)
     left, field, start = bytearray(), 0, 0

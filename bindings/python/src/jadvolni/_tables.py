@@ -9,7 +9,8 @@ from contextlib import nullcontext, suppress
 from typing import (TYPE_CHECKING, Any, BinaryIO, Callable, ContextManager, Iterable, Iterator,
                     Mapping, NamedTuple, Optional, Union)
 
-from ._blocks import Block, Blocks, File, _block, _one_or_more, _size_left, keep_memory
+from ._blocks import (Block, Blocks, File, _block, _one_or_more, _size_left, ask_progress,
+                      keep_memory)
 from ._core import _row_count, _text_size
 from ._faults import AtFault, Errors, OnError, Part, at_fault, noting
 from ._files import Texts, read_texts, whole_rows
@@ -249,6 +250,7 @@ def read_table(
     how = How(separator, has_returns, has_quotes, allows_blanks, skips_empty_rows, missing, widths,
               is_records, allows_returns)
     at = at_fault(on_error, errors, _name_of(file))
+    ask_progress(progress)
     asked = _Asked(columns, how, at, header, 1 if threads is None else threads, out, size, progress)
     if not isinstance(file, (str, os.PathLike)):
         if mmap:
@@ -378,6 +380,7 @@ def iter_table(
     how = How(separator, has_returns, has_quotes, allows_blanks, skips_empty_rows, missing, widths,
               is_records, allows_returns)
     at = at_fault(on_error, errors, _name_of(file))
+    ask_progress(progress)
     asked = _Asked(columns, how, at, header, threads, progress=progress)
     reader, blocks, start = _opened(file, asked, size, threads, size)
     if threads > 1:

@@ -89,6 +89,9 @@ class TextColumn(Sequence["Cell"]):
             chosen = rows[row]
         except IndexError:
             raise IndexError(f"the column has {len(self)} rows, and none of this number") from None
+        except TypeError:
+            kind = type(row).__name__
+            raise TypeError(f"a row has to be an integer or a slice, and not {kind}") from None
         return self._cell(chosen, *self.offsets[chosen:chosen + 2])
 
     def _cell(self, row: int, start: int, stop: int) -> Cell:
