@@ -44,6 +44,9 @@ export function ofTable(table, name, value) {
   return found;
 }
 
+/** A name without what tells `hasQuotes` and `has_quotes` apart. */
+const joined = (name) => name.replaceAll("_", "").toLowerCase();
+
 /** The own fields of an object that describes a format, a table, a column or a call, each read once. It refuses
  * unknown names, and ignores the prototype. */
 export function ownFields(whose, given, names, field = "field") {
@@ -51,7 +54,10 @@ export function ownFields(whose, given, names, field = "field") {
     throw new TypeError(`the ${field}s of ${whose} have to be an object, and not ${described(given)}`);
   }
   for (const name of Object.keys(given)) {
-    if (!names.includes(name)) throw new TypeError(`${whose} has no ${field} ${described(name)}`);
+    if (names.includes(name)) continue;
+    const alike = names.find((it) => joined(it) === joined(name));
+    const instead = alike === undefined ? "" : `, but ${described(alike)}`;
+    throw new TypeError(`${whose} has no ${field} ${described(name)}${instead}`);
   }
   return { __proto__: null, ...given };
 }

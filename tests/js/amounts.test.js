@@ -162,7 +162,7 @@ test("wrong arguments", () => {
     assert.throws(() => parseFront("1", "u8", options), refused);
     assert.throws(() => parseTable("1", [{ type: "u8", ...options }]), refused);
   }
-  const known = { name: "TypeError", message: 'parse has no option "takesFewer"' };
+  const known = { name: "TypeError", message: 'parse has no option "takesFewer", but "takes_fewer"' };
   assert.throws(() => parse("1", "u8", { places: 2, takesFewer: true }), known);
   const narrow = { name: "TypeError", message: /^type has to be one of/ };
   assert.throws(() => parseTable("1.00", [{ type: "i128", places: 2 }]), narrow);
