@@ -12,7 +12,14 @@ fn main() {
     }
     let folder = folder();
     let shown = folder.display();
-    assert!(folder.is_dir(), "libjadvolni is looked for in {shown}, which is no folder");
+    let is_relative =
+        env::var_os("JADVOLNI_LIB_DIR").is_some_and(|it| Path::new(&it).is_relative());
+    let hint = if is_relative {
+        ": a relative JADVOLNI_LIB_DIR starts at the folder jadvolni-sys"
+    } else {
+        ""
+    };
+    assert!(folder.is_dir(), "libjadvolni is looked for in {shown}, which is no folder{hint}");
     let found = LIBRARIES.into_iter().find(|(file, _)| is_filled(&folder.join(file)));
     let Some((file, kind)) = found else {
         panic!("{shown} has no libjadvolni.a and no libjadvolni.so, or empty ones");

@@ -69,7 +69,7 @@ fn fault_is_said_with_path() {
     fs::create_dir(room.join("hollow")).unwrap();
     fs::write(room.join("hollow/libjadvolni.a"), "").unwrap();
     let faults = [
-        ("gone", "gone, which is no folder"),
+        ("gone", "gone, which is no folder: a relative JADVOLNI_LIB_DIR starts at the folder jadvolni-sys"),
         ("file", "file, which is no folder"),
         ("bare", "bare has no libjadvolni.a"),
         ("hollow", "hollow has no libjadvolni.a"),
@@ -79,6 +79,9 @@ fn fault_is_said_with_path() {
         let said = run_script(&room, Some(setting)).unwrap_err();
         assert!(said.contains(&format!("{}/{fault}", room.display())), "{said}");
     }
+    let gone = room.join("gone").display().to_string();
+    let said = run_script(&room, Some(&gone)).unwrap_err();
+    assert!(said.contains(&format!("{gone}, which is no folder\n")), "{said}");
 }
 
 #[test]
