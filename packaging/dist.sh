@@ -7,9 +7,12 @@
 # that archive is left out, with a message. Two runs at one commit give the same bytes.
 set -eu
 export LC_ALL=C TZ=UTC PYTHONDONTWRITEBYTECODE=1 PIP_DISABLE_PIP_VERSION_CHECK=1
-unset CPPFLAGS INCLUDEDIR LIBDIR MANDIR MAKEFLAGS # which would change the archives
+# These would change the archives.
+unset CPPFLAGS INCLUDEDIR LIBDIR MANDIR MAKEFLAGS TAR_OPTIONS
+unset DEB_BUILD_OPTIONS DEB_BUILD_PROFILES DPKG_DEB_COMPRESSOR_LEVEL DPKG_DEB_COMPRESSOR_TYPE
 # So would these settings of a user.
-export GIT_CONFIG_COUNT=2 GIT_CONFIG_KEY_0=tar.umask GIT_CONFIG_VALUE_0=0002 GIT_CONFIG_KEY_1=log.showSignature GIT_CONFIG_VALUE_1=false
+export GIT_CONFIG_COUNT=4 GIT_CONFIG_KEY_0=tar.umask GIT_CONFIG_VALUE_0=0002 GIT_CONFIG_KEY_1=log.showSignature GIT_CONFIG_VALUE_1=false
+export GIT_CONFIG_KEY_2=core.autocrlf GIT_CONFIG_VALUE_2=false GIT_CONFIG_KEY_3=core.attributesFile GIT_CONFIG_VALUE_3=/dev/null
 umask 022
 case $* in '' | check) ;; *) echo "usage: packaging/dist.sh [check]" >&2; exit 2 ;; esac
 cd "$(dirname "$0")/.."
