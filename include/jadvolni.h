@@ -178,7 +178,9 @@ typedef enum jadvolni_status {
     JADVOLNI_INVALID_TABLE = 17,
 
     /* A quote in a cell neither encloses it nor is doubled within quotes that do, or it is never closed,
-     * or it stands within a number. The place is that of the quote. */
+     * or it stands within a number. The place is that of the quote. In a cell that begins with a quote it is
+     * for a number the next one, and otherwise the one before the first byte outside quotes. If there is
+     * none, it is the first, which is never closed. In the cell "1"" it is 2 for a number, 0 for a text. */
     JADVOLNI_MISPLACED_QUOTE = 18,
 
     /* The radix of the integer part of fixed-point numbers isn't 10. For this and the next three the
@@ -890,7 +892,8 @@ typedef struct jadvolni_table {
     uint8_t has_quotes;
 
     /* Flag: spaces and tabs may surround a number, or what stands for a missing one. If that is quoted,
-     * they stand within the quotes: with a blank outside them a quote is misplaced. */
+     * they stand within the quotes: with a blank outside them a quote is misplaced. In a cell of blanks
+     * alone the digit is missing after them. */
     uint8_t allows_blanks;
 
     /* Flag: a row without a byte before its end is skipped, and has no number, even if an empty cell is a

@@ -334,7 +334,8 @@ inline skipping_result read_table_skipping(std::string_view text, bool is_last, 
 
 // As parse_table_part, but bad rows are skipped: each is described in `bad`, as long as there is room, and the good
 // ones are stored without gaps. If the table has quotes, a stray one takes the lines up to the next stray one, or to
-// the end of the text, into its row: if that is bad, they are all skipped, as one row.
+// the end of the text, into its row: if that is bad, they are all skipped, as one row. A bad row is read up to its
+// fault: so if fewer rows than `capacity` come, the element after the last one, and its bit, may have changed.
 template <class Columns, class Bad>
 [[nodiscard]] skipping_result parse_table_part_skipping(std::string_view text, bool is_last,
                                                         const table &how, std::size_t capacity,

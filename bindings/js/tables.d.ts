@@ -37,7 +37,7 @@ export type TableColumn = keyof Columns | "text" | ReadColumn | ReadTexts | null
 export interface TextColumn extends Iterable<string | null> {
   /** How many rows the column has. */
   readonly length: number;
-  /** Where each text starts: the offset of its first byte in what was read. */
+  /** Where each text starts: the offset of its first byte in what was read. That of a missing one says nothing. */
   readonly starts: Float64Array;
   /** How many bytes each has: 0 if it is missing. */
   readonly sizes: Uint32Array;

@@ -153,7 +153,8 @@ def parse_table(
     allows_blanks: spaces and tabs may surround a number, or `missing` in its place: within its
     quotes if it has them, and not in a Text.
     skips_empty_rows: a row without a byte before its end doesn't count as a row, and is no missing
-    cell. With has_returns it may end with a line feed alone. A row of blanks isn't empty.
+    cell. With has_returns it may end with a line feed alone. A row of blanks isn't empty. By
+    default an empty row has one empty cell, or with widths those of width 0 before all others.
     missing: what stands for a missing number or text, by default an empty cell, and "" too if the
     table has quotes. It is all that the cell holds, and counts only in a Column with may_miss. A
     column of numbers then is a Sparse.
@@ -163,7 +164,8 @@ def parse_table(
     is_records: rows have as many bytes as the widths together, at least one, and no line feed: one
     at the end of the text belongs to a further row.
     out: a dict of writable arrays with room for all rows, one for each column of numbers, and a
-    Sparse of arrays for a Column with may_miss. The table has them, up to the last row.
+    Sparse of arrays for a Column with may_miss. The table has them, up to the last row; after that
+    they may hold anything.
     threads: how many threads read the text, each a part of it. The rows and errors are the same for
     any number. After an error, `out` may hold anything.
     header: the first line, or the first of the records, names the columns. `columns` then selects
@@ -173,19 +175,19 @@ def parse_table(
     a quote that never closes is a part of its name. Without a header a byte order mark belongs to
     the first cell.
     on_error: "raise" raises the error of the first bad row. "skip" skips bad rows, and stores the
-    others without gaps; the table's `bad_rows` counts those skipped. The place after the last row
-    in `out` may then change. If the table has quotes, a stray one takes the lines up to the next
-    stray one, or to the end of the text, into its row: if that is bad, they are all skipped, as one
-    row.
+    others without gaps; the table's `bad_rows` counts those skipped. If the table has quotes, a
+    stray one takes the lines up to the next stray one, or to the end of the text, into its row: if
+    that is bad, they are all skipped, as one row.
     errors: with "skip", a list to which the ParseError of each bad row is appended, or a function
     that is called with it, in the order of the rows. If it raises, reading ends.
 
     ParseError is raised for the first bad cell in reading order, or for a row with too few or too
-    many. `row`, `line` and `column` count from 0, and `name` is the column's. `place` is the offset
-    of the wrong byte, `row_start` and `row_stop` those of its row, and `text` has the cell's first
-    bytes, at most 40. Offsets count bytes from 0, over the whole text. A header is no row, but its
-    lines and bytes count. The message counts lines and columns from 1, as an editor does, and bytes
-    from 0.
+    many. `row`, `line` and `column` count from 0, and `name` is the column's. `row` counts good and
+    bad rows. `place` is the offset of the wrong byte, `row_start` and `row_stop` those of its row
+    with its line end, and `text` has the cell's first bytes, at most 40, and none if a cell or the
+    return is missing. Offsets count bytes from 0, over the whole text. A header is no row, but its
+    lines and bytes count. The message counts lines, of records rows, and columns from 1, as an
+    editor does, and bytes from 0.
 
     ValueError is raised if the header lacks a column of `columns`, or has it twice, and if the
     arrays of `out` don't fit. ValueError or TypeError is raised for arguments that are wrong, and

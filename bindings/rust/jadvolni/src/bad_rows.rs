@@ -112,7 +112,7 @@ pub struct Skipping<'b> {
 /// All good rows are stored, and no others, without gaps. If the dialect has quotes, a stray one takes the lines up to
 /// the next stray one, or to the end of the text, into its row: if that is bad, they are all skipped, as one row. A bad
 /// row is read up to its fault, into the elements of the next good one: so if there is room after the last row, the
-/// element there may have changed in each slice. The error is a fault of the table or of a column.
+/// element there, and its bit, may have changed in each slice. The error is a fault of the table or of a column.
 ///
 /// ```
 /// use jadvolni::{parse_table_skipping, BadRow, Dialect, Error, TableColumn};
