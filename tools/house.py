@@ -33,7 +33,7 @@ IMPORT = re.compile(r"\s*(?:ghost )?(?:pub )?use ")
 
 # The word readers, what each has to have, and what none may name.
 READERS = {
-    "crates/lexical_parse_integer/src/algorithm/multi.rt": (
+    "crates/lexical_parse_integer/src/algorithm/counted/multi.rt": (
         "match value_of_4lanes(bytes, c.radix())", "match value_of_8lanes(bytes, c.radix())"),
     "crates/lexical_digits/src/lanes.rt": (
         "use std::simd::prelude", "u8x4::from_slice(bytes)", "u8x8::from_slice(bytes)"),

@@ -1,11 +1,11 @@
 //! The values of digits of any radix, one after another. The digit of a byte is found in a table, and so few are read
 //! that none of their numbers leaves the type: no step is tested.
-ghost use Rattle.std.specs.Prelude.{◌≤◌, IfSome, IsTrue, length};
+ghost use Rattle.std.specs.Prelude.{◌<◌, ◌≤◌, IfSome, IsTrue, length};
 ghost use Rattle.lexical_util.specs.Digit.{IsRadix};
 ghost use Rattle.lexical_util.specs.Number.{HasRoom, IsNumber};
 ghost use Rattle.lexical_digits.specs.WrittenNumbers.{StandsFor, WritesFront};
 
-use crate::values::signed_value;
+use crate::values::{number_limit, signed_value};
 use lexical_util::digit::char_to_digit;
 use lexical_util::num::Integer;
 
@@ -29,6 +29,29 @@ fn number_by_table<T: Integer>(digits: &[u8], radix: u32, most: usize) -> Option
     Some(value)
 }
 
+// The value of digits of the radix in a type of fewer than 32 bits: it has room for few digits without a test, so that their
+// number is read with 32 bits, and compared once.
+#[inline(always)]
+fn value_by_limit<T: Integer>(digits: &[u8], radix: u32, is_negative: bool) -> Option<T>
+    requires bits { T.TYPE.bits < 32 }
+    requires radix { IsRadix radix }
+    requires minus { IsTrue is_negative → IsTrue T.TYPE.is_signed }
+    ensures { IfSome result
+        (λ value. StandsFor T.TYPE radix is_negative digits.now (T.number value)) }
+{
+    let most = u32::overflow_digits(radix);
+    if digits.len() > most {
+        return None;
+    }
+    let Some(number) = number_by_table::<u32>(digits, radix, most) else {
+        return None;
+    };
+    if number as u64 >= number_limit::<T>() {
+        return None;
+    }
+    Some(signed_value::<T>(T::from_u32(number), is_negative))
+}
+
 /// The value of digits of the radix, with a minus where `is_negative`.
 #[inline(never)]
 pub fn value_by_table<T: Integer>(digits: &[u8], radix: u32, is_negative: bool) -> Option<T>
@@ -37,6 +60,9 @@ pub fn value_by_table<T: Integer>(digits: &[u8], radix: u32, is_negative: bool) 
     ensures { IfSome result
         (λ value. StandsFor T.TYPE radix is_negative digits.now (T.number value)) }
 {
+    if T::BITS < 32 {
+        return value_by_limit::<T>(digits, radix, is_negative);
+    }
     let most = T::overflow_digits(radix);
     if digits.len() > most {
         return None;

@@ -1,3 +1,3 @@
--- Words of digits as bytes of the text: for the answers of `algorithm::multi`.
+-- Words of digits as bytes of the text: for the answers of `algorithm::counted::multi`.
 pub mod BorrowedBytes
 pub mod WordsInTexts

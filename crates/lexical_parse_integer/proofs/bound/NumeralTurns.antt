@@ -1,4 +1,4 @@
--- The turns of a numeral, by those of its parts: for `algorithm::numeral` and `algorithm::read`.
+-- The turns of a numeral, by those of its parts: for `algorithm::counted::numeral` and `algorithm::counted::read`.
 use Rattle.std.proofs.Common.{◌≡◌, ℕ, ◌+◌, ◌≤◌, Bool, List, Err, Ok, Result, sym, ap, subst, arith, inl, ◌⊎◌, ◌∙◌}
 use Rattle.std.specs.Prelude.{ℤ, IsNone, IsTrue, MatchResult}
 use Rattle.std.proofs.lemmas.Bool.{false≢true}

@@ -1,4 +1,4 @@
--- The bound on turns, from the words and the digits that were taken: for `algorithm::numeral`.
+-- The bound on turns, from the words and the digits that were taken: for `algorithm::counted::numeral`.
 use Rattle.std.proofs.Common.{◌≡◌, ℕ, ◌+◌, ◌-◌, ◌*◌, ◌≤◌, ◌<◌, Bool, true, false, cond, min, refl, sym, ap, subst, arith, inl, inr, ◌⊎◌, ◌∙◌}
 use Rattle.std.specs.Prelude.{◌/◌, nat_le}
 use Rattle.lexical_parse_integer.specs.Turns.{turns_bound, digits_per_word}

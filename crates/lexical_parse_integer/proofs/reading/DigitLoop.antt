@@ -1,4 +1,4 @@
--- One round of a loop that takes a cursor's digits one at a time: for `algorithm::digits`.
+-- One round of a loop that takes a cursor's digits one at a time: for `algorithm::counted::digits`.
 use Rattle.std.proofs.Common.{◌≡◌, ℕ, ◌+◌, ◌<◌, Bool, false, true, get_or, refl, sym, ap, ◌∙◌, subst, arith, Some}
 use Rattle.std.specs.Prelude.{ℤ, pos}
 use Rattle.lexical_util.specs.declared.error.Error.{Error}

@@ -1,4 +1,4 @@
--- The first digit, and whether another one follows: for `algorithm::zeros`.
+-- The first digit, and whether another one follows: for `algorithm::counted::zeros`.
 use Rattle.std.proofs.Common.{◌≡◌, ◌≢◌, ℕ, ◌+◌, ◌-◌, ◌*◌, ◌≤◌, Bool, false, true, not, ◌&&◌, List, get_or, is_some, Some, None, refl, sym, ap, ◌∙◌, subst, arith, inl, inr, ◌⊎◌, cond}
 use Rattle.std.specs.Prelude.{ℤ, pos, nat_lt, nat_le, ◌==◌, slice_get, Option, MatchOption, option_and_then}
 use Rattle.std.specs.Option.{option_or, option_eq}

@@ -1,4 +1,4 @@
--- The answers of the two parsers, from what was read: for `algorithm::head`, `read` and the two calls on a cursor.
+-- The answers of the two parsers, from what was read: for `algorithm::counted::head`, `read` and the two calls on a cursor.
 use Rattle.std.proofs.Common.{◌≡◌, ℕ, ◌+◌, ◌≤◌, ◌<◌, Bool, false, true, cond, ◌&&◌, ◌||◌, List, [], ◌∷◌, length, is_some, Option, Some, None, Ok, Err, Result, refl, sym, ap, ◌∙◌, subst, arith, inl, inr, ◌⊎◌}
 use Rattle.std.specs.Prelude.{◌↔◌, IsTrue, ℤ, nat_lt, slice_get, ◌==◌}
 use Rattle.std.specs.Option.{option_or}

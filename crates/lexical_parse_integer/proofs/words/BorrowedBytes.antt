@@ -1,4 +1,4 @@
--- Lanes of the bytes that a cursor lent: for `algorithm::multi`.
+-- Lanes of the bytes that a cursor lent: for `algorithm::counted::multi`.
 use Rattle.std.proofs.Common.{◌≡◌, ◌∙◌, ◌+◌, ◌≤◌, ◌<◌, ◌^◌, ℕ, Bool, true, false, cond, List, length, Some, None, ap, subst, sym, refl, arith, IsSome, slice_range}
 use Rattle.lexical_digits.specs.Lanes.{are_digit_lanes}
 use Rattle.lexical_parse_integer.specs.Runs.{digit_at}

@@ -1,4 +1,4 @@
--- Words in a text: their bytes are the text's, and their digits the numeral's. For `algorithm::multi`.
+-- Words in a text: their bytes are the text's, and their digits the numeral's. For `algorithm::counted::multi`.
 use Rattle.std.proofs.Common.{◌≡◌, ℕ, zero, suc, ◌+◌, ◌-◌, ◌^◌, ◌≤◌, ◌<◌, Bool, true, false, List, [], ◌∷◌, length, get_or, take, drop, is_some, Some, None, sym, ap, ◌∙◌, subst, arith}
 use Rattle.std.specs.Prelude.{pos, slice_get, slice_range, option_and_then, IsSome}
 use Rattle.std.proofs.Math.Nat.{pow-le-pow_left}

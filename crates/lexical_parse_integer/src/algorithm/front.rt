@@ -15,7 +15,7 @@ ghost use Rattle.lexical_parse_integer.specs.Numeral.{numeral_in};
 ghost use Rattle.lexical_parse_integer.specs.Reading.{Reads, ReadsAll, ReadsNumeral, view_at};
 
 use crate::affixes::{octal_zero_at, prefix_radix, suffix_at};
-use crate::algorithm::digits::join_checked;
+use crate::algorithm::join::join_checked;
 use crate::seek::{Found, digit_at, seek};
 use lexical_digits::zeros;
 use lexical_util::error::Error;
@@ -131,7 +131,7 @@ pub(crate) fn head_of<T: Integer>(bytes: &[u8], format: &NumberFormat) -> Result
 
 // Whether a prefix is all that there is.
 #[inline(always)]
-pub(super) fn is_prefix_alone(bytes: &[u8], head: Head) -> bool
+fn is_prefix_alone(bytes: &[u8], head: Head) -> bool
     ensures { result ≡ (head.is_prefixed && (head.start == length bytes.now)) }
 {
     head.is_prefixed && head.start == bytes.len()
@@ -306,11 +306,7 @@ fn is_empty_fault(bytes: &[u8], format: &NumberFormat, count: usize, stop: usize
 
 // What the front of a text stands for behind its head, and the place at which reading stops.
 #[inline(always)]
-pub(super) fn front_behind<T: Integer>(
-    bytes: &[u8],
-    format: &NumberFormat,
-    head: Head,
-) -> Result<(T, usize)>
+fn front_behind<T: Integer>(bytes: &[u8], format: &NumberFormat, head: Head) -> Result<(T, usize)>
     requires valid { IsNone (fault format.now) }
     requires head { head_of format.now T.TYPE bytes.now ≡ Ok (record {
       is_negative = head.is_negative;
@@ -347,7 +343,7 @@ pub(crate) fn partial_from_front<T: Integer>(
 
 // The answer for a whole text by that for its front: what the front stands for, if reading stops at the text's end.
 #[inline(always)]
-pub(super) fn completion<T: Integer>(bytes: &[u8], front: Result<(T, usize)>) -> Result<T>
+fn completion<T: Integer>(bytes: &[u8], front: Result<(T, usize)>) -> Result<T>
     ensures { view_of T.number result
         ≡ completion_of (length bytes.now) (view_of (with_place T.number) front) }
 {
@@ -357,27 +353,6 @@ pub(super) fn completion<T: Integer>(bytes: &[u8], front: Result<(T, usize)>) ->
         Err(Error::Empty(place)) if place < bytes.len() => Err(Error::InvalidDigit(place)),
         Err(error) => Err(error),
     }
-}
-
-// What the whole text stands for, by its digits one after another behind a head that is known. Out of line: a text whose
-// value is read at once pays for none of it.
-#[inline(never)]
-pub(super) fn complete_behind<T: Integer>(
-    bytes: &[u8],
-    format: &NumberFormat,
-    head: Head,
-) -> Result<T>
-    requires valid { IsNone (fault format.now) }
-    requires head { head_of format.now T.TYPE bytes.now ≡ Ok (record {
-      is_negative = head.is_negative;
-      is_prefixed = head.is_prefixed;
-      is_octal = head.is_octal;
-      start = head.start;
-      radix = head.radix;
-    }) }
-    ensures { view_of T.number result ≡ complete format.now T.TYPE bytes.now }
-{
-    completion::<T>(bytes, front_behind::<T>(bytes, format, head))
 }
 
 /// The integer that the whole text stands for under a format that may be invalid.

@@ -5,13 +5,10 @@ ghost use Rattle.lexical_util.specs.Format.{standard};
 ghost use Rattle.lexical_util.specs.Validity.{fault};
 ghost use Rattle.lexical_parse_integer.specs.Answer.{view_of};
 ghost use Rattle.lexical_parse_integer.specs.Grammar.{complete, complete_if_valid};
-ghost use Rattle.lexical_parse_integer.specs.Head.{head_of, sign};
+ghost use Rattle.lexical_parse_integer.specs.Head.{sign};
 ghost use Rattle.lexical_parse_integer.specs.Plain.{IsPlain};
 
-use crate::algorithm::front::{
-    Head, complete_behind, complete_from_front, completion, front_behind, head_of, is_prefix_alone,
-    sign_of,
-};
+use crate::algorithm::front::{complete_from_front, sign_of};
 use crate::algorithm::plain::faults::{
     answer_after_digits, fault_after_many, place_after_digits, place_after_few,
 };
@@ -19,27 +16,11 @@ use crate::algorithm::plain::{
     has_forbidden_zero, is_decimal, is_plain, standard_behind_plus, value_behind_plus,
     value_of_decimal, value_of_many, value_of_plain,
 };
-use crate::algorithm::punctuated::{
-    is_parted_otherwise, value_behind_head, value_of_groups, value_of_parted, value_of_row,
-};
+use crate::algorithm::punctuated::{is_parted_otherwise, value_if_punctuated};
 use lexical_util::error::Error;
 use lexical_util::format::{self, NumberFormat};
 use lexical_util::num::Integer;
 use lexical_util::result::Result;
-
-// The value under a format with punctuation that may be invalid: the readers refuse that, so that a caller tells three kinds
-// apart, the decimal one first. Each reader answers in registers: a `Result` goes through memory.
-#[inline(always)]
-fn value_if_punctuated<T: Integer>(bytes: &[u8], format: &NumberFormat) -> Option<T>
-    ensures valid { IfSome result (λ value. IsNone (fault format.now)) }
-    ensures answer { IfSome result
-        (λ value. complete format.now T.TYPE bytes.now ≡ Ok (T.number value)) }
-{
-    match format.digit_separator() {
-        Some(separator) => value_of_groups::<T>(bytes, format, separator),
-        None => value_of_row::<T>(bytes, format),
-    }
-}
 
 /// The integer that the whole text stands for under a valid format, where the reader for the format's kind has it at once:
 /// of digits alone behind a sign and a prefix, or of decimal digits in groups of three.
@@ -187,14 +168,6 @@ fn front_answer<T: Integer>(bytes: &[u8], format: &NumberFormat) -> Result<T>
     complete_from_front::<T>(bytes, format)
 }
 
-#[inline(always)]
-fn punctuated_answer<T: Integer>(bytes: &[u8], format: &NumberFormat) -> Result<T>
-    requires valid { IsNone (fault format.now) }
-    ensures { view_of T.number result ≡ complete format.now T.TYPE bytes.now }
-{
-    complete_punctuated::<T>(bytes, format)
-}
-
 // The complete answer under a decimal format without punctuation, for a text on which `value_if_short` gave up: a short one is
 // mostly at fault then, and of a long one the value is had in registers.
 #[inline(always)]
@@ -252,46 +225,10 @@ pub fn complete_if_valid<T: Integer>(bytes: &[u8], format: &NumberFormat) -> Res
     punctuated_rest::<T>(bytes, format)
 }
 
-// ---- under a valid format
-
-// The complete answer under a valid format with punctuation, as one with a suffix, or with no separator: the text's head is
-// found once, and what isn't digits alone behind it is read from there, as octal digits are. Out of line, to keep callers small.
-#[inline(never)]
-fn complete_punctuated<T: Integer>(bytes: &[u8], format: &NumberFormat) -> Result<T>
-    requires valid { IsNone (fault format.now) }
-    ensures { view_of T.number result ≡ complete format.now T.TYPE bytes.now }
-{
-    let head = head_of::<T>(bytes, format)?;
-    if !head.is_octal && head.start < bytes.len() {
-        if let Some(value) = value_behind_head::<T>(bytes, format, head) {
-            return Ok(value);
-        }
-    } else if is_prefix_alone(bytes, head) {
-        return Err(Error::Empty(bytes.len()));
-    }
-    completion::<T>(bytes, front_behind::<T>(bytes, format, head))
-}
-
-// The complete answer under a valid format with a separator.
+/// The integer that the whole text stands for under a valid format, for a text on which `value_if_short` gave up. Groups that
+/// aren't of three are read from the front at once.
 #[inline(always)]
 #[tactic(auto, using(crate::proofs::plain::DigitsAlone::valid_answer))]
-fn separated_rest<T: Integer>(bytes: &[u8], format: &NumberFormat, separator: u8) -> Result<T>
-    requires valid { IsNone (fault format.now) }
-    requires separator { format.now.digit_separator ≡ Some separator }
-    ensures { view_of T.number result ≡ complete format.now T.TYPE bytes.now }
-{
-    if is_parted_otherwise(bytes, separator) {
-        return front_answer::<T>(bytes, format);
-    }
-    match value_of_groups::<T>(bytes, format, separator) {
-        Some(value) => Ok(value),
-        None => front_answer::<T>(bytes, format),
-    }
-}
-
-/// The integer that the whole text stands for under a valid format, for a text on which `value_if_short` gave up: it isn't read
-/// as short decimal digits again. The readers of values stand in the caller's place, as a loop over texts wants.
-#[inline(always)]
 pub fn complete_valid<T: Integer>(bytes: &[u8], format: &NumberFormat) -> Result<T>
     requires valid { IsNone (fault format.now) }
     ensures { view_of T.number result ≡ complete format.now T.TYPE bytes.now }
@@ -303,105 +240,9 @@ pub fn complete_valid<T: Integer>(bytes: &[u8], format: &NumberFormat) -> Result
         return plain_rest::<T>(bytes, format);
     }
     match format.digit_separator() {
-        Some(separator) if format.base_suffix().is_none() => {
-            separated_rest::<T>(bytes, format, separator)
+        Some(separator) if is_parted_otherwise(bytes, separator) => {
+            front_answer::<T>(bytes, format)
         }
-        _ => punctuated_answer::<T>(bytes, format),
+        _ => punctuated_rest::<T>(bytes, format),
     }
-}
-
-// The complete answer under a decimal format without punctuation, for a text of more than sixteen bytes. This and the next
-// two are out of line, so that their callers need no stack frame.
-#[inline(never)]
-fn complete_many<T: Integer>(bytes: &[u8], format: &NumberFormat) -> Result<T>
-    requires plain { IsPlain format.now }
-    requires decimal { format.now.mantissa_radix ≡ 10 }
-    ensures { view_of T.number result ≡ complete format.now T.TYPE bytes.now }
-{
-    match value_of_many::<T>(bytes, format) {
-        Some(value) => Ok(value),
-        None => complete_decimal::<T>(bytes, format),
-    }
-}
-
-// The complete answer under a valid format of any radix without punctuation.
-#[inline(never)]
-fn complete_plain<T: Integer>(bytes: &[u8], format: &NumberFormat) -> Result<T>
-    requires plain { IsPlain format.now }
-    requires valid { IsNone (fault format.now) }
-    ensures { view_of T.number result ≡ complete format.now T.TYPE bytes.now }
-{
-    plain_rest::<T>(bytes, format)
-}
-
-// The complete answer behind a head, by a function that clears the room for its `Result` itself.
-#[inline(always)]
-fn behind_answer<T: Integer>(bytes: &[u8], format: &NumberFormat, head: Head) -> Result<T>
-    requires valid { IsNone (fault format.now) }
-    requires head { head_of format.now T.TYPE bytes.now ≡ Ok (record {
-      is_negative = head.is_negative;
-      is_prefixed = head.is_prefixed;
-      is_octal = head.is_octal;
-      start = head.start;
-      radix = head.radix;
-    }) }
-    ensures { view_of T.number result ≡ complete format.now T.TYPE bytes.now }
-{
-    complete_behind::<T>(bytes, format, head)
-}
-
-// The complete answer under a valid format with a separator: the text's head is read once, and a fault there is returned.
-#[inline(never)]
-fn complete_separated<T: Integer>(bytes: &[u8], format: &NumberFormat, separator: u8) -> Result<T>
-    requires valid { IsNone (fault format.now) }
-    requires separator { format.now.digit_separator ≡ Some separator }
-    ensures { view_of T.number result ≡ complete format.now T.TYPE bytes.now }
-{
-    let head = head_of::<T>(bytes, format)?;
-    if head.start < bytes.len() {
-        if let Some(value) = value_of_parted::<T>(bytes, format, separator, head) {
-            return Ok(value);
-        }
-    } else if is_prefix_alone(bytes, head) {
-        return Err(Error::Empty(bytes.len()));
-    }
-    behind_answer::<T>(bytes, format, head)
-}
-
-// The separator, under a format without a suffix.
-#[inline(always)]
-fn separator_without_suffix(format: &NumberFormat) -> Option<u8>
-    ensures { IfSome result (λ separator. format.now.digit_separator ≡ Some separator) }
-{
-    let separator = format.digit_separator()?;
-    if format.base_suffix().is_some() {
-        return None;
-    }
-    Some(separator)
-}
-
-/// The integer that the whole text stands for under a valid format, for a text on which `value_if_short` gave up: by one call
-/// for each kind of format, so that a number which `value_if_short` reads pays for none.
-#[inline(always)]
-#[tactic(auto, using(crate::proofs::plain::DigitsAlone::valid_answer))]
-pub(super) fn complete_by_kind<T: Integer>(bytes: &[u8], format: &NumberFormat) -> Result<T>
-    requires valid { IsNone (fault format.now) }
-    ensures { view_of T.number result ≡ complete format.now T.TYPE bytes.now }
-{
-    if is_decimal(format) {
-        if bytes.len() <= 16 {
-            return complete_decimal::<T>(bytes, format);
-        }
-        return complete_many::<T>(bytes, format);
-    }
-    if is_plain(format) {
-        return complete_plain::<T>(bytes, format);
-    }
-    let Some(separator) = separator_without_suffix(format) else {
-        return complete_punctuated::<T>(bytes, format);
-    };
-    if is_parted_otherwise(bytes, separator) {
-        return complete_from_front::<T>(bytes, format);
-    }
-    complete_separated::<T>(bytes, format, separator)
 }

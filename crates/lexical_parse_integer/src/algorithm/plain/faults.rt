@@ -12,8 +12,8 @@ ghost use Rattle.lexical_parse_integer.specs.Grammar.{complete};
 ghost use Rattle.lexical_parse_integer.specs.Head.{sign};
 ghost use Rattle.lexical_parse_integer.specs.Plain.{IsPlain};
 
-use crate::algorithm::digits::join_checked;
 use crate::algorithm::front::sign_of;
+use crate::algorithm::join::join_checked;
 use crate::algorithm::plain::keeps_zero_rule;
 use crate::seek::digit_at;
 use lexical_digits::fronts::{number_behind, number_in_front, value_of_digits};

@@ -85,8 +85,8 @@ fn with_three<T: Integer>(value: T, three: u32, is_negative: bool) -> Option<T>
     value.checked_mul_add(T::from_u32(1000), T::from_u32(three), is_negative)
 }
 
-// The value of digits that stand so, with a minus where `is_negative`.
-#[inline(always)]
+// The value of digits that stand so, with a minus where `is_negative`. Out of line, so that few digits need no stack frame.
+#[inline(never)]
 pub(super) fn value_of_threes<T: Integer>(
     bytes: &[u8],
     format: &NumberFormat,
@@ -103,9 +103,6 @@ pub(super) fn value_of_threes<T: Integer>(
     ensures worth { IfSome result
         (λ value. AreWorth T.TYPE 10 is_negative bytes.now (T.number value)) }
 {
-    if bytes.len() <= 4 {
-        return value_of_digits::<T>(bytes, is_negative);
-    }
     let mut place = guess_of_first(bytes, separator);
     let mut value = value_of_digits::<T>(&bytes[..place], is_negative)?;
     while place + 4 <= bytes.len() {

@@ -2,17 +2,10 @@ use Rattle.std.proofs.Common.{ℕ, ap, arith, ◌∙◌}
 use Rattle.std.specs.Prelude.{pos}
 use Rattle.lexical_util.specs.Digit.{digit}
 use Rattle.lexical_util.specs.Number.{mul_add}
-use Rattle.lexical_parse_integer.proofs.punctuated.DigitsAmong.{digits_alone, digits_worth, row_grouped}
+use Rattle.lexical_parse_integer.proofs.punctuated.DigitsAmong.{digits_alone, digits_worth}
 use Rattle.lexical_parse_integer.proofs.punctuated.PartedFronts.{all_worth, worth_sign}
 use Rattle.lexical_parse_integer.proofs.punctuated.Threes.{row_ends, row_parted, three_ends, three_parted, three_worth, threes_grouped}
-use Rattle.lexical_digits.proofs.LongNumbers.{if_found}
 use Rattle.lexical_parse_integer.proofs.algorithm.punctuated.threes.value_of_threes.Goals as goal
-
-pub returns-then-bytes-le4-clause-grouped : goal.returns-then-bytes-le4-clause-grouped
-returns-then-bytes-le4-clause-grouped g c = if_found c.value_of_digits.result (λ v w. row_grouped _ 10 _ c.requires.some (digits_alone _ 10 _ _ _ w)) c.value_of_digits.ensures
-
-pub returns-then-bytes-le4-clause-worth : goal.returns-then-bytes-le4-clause-worth
-returns-then-bytes-le4-clause-worth g c = if_found c.value_of_digits.result (λ v w. digits_worth _ 10 _ _ _ w) c.value_of_digits.ensures
 
 pub loop-place-init : goal.loop-place-init
 loop-place-init g c =
