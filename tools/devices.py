@@ -268,12 +268,16 @@ def refused_memory(runs: Runs) -> None:
 
 def failing_allocations(runs: Runs, known: Known, least: int, library: str) -> None:
     """Each allocation of a run fails in turn; there are at least `least`. The run ends well where
-    it has no allocation of that number, and so it does with the next number."""
+    it has no allocation of that number, and so it does with the next number. The input is a file:
+    how a pipe hands it out, and so how many allocations there are, would differ between runs."""
     refused, whole = Ended(2, b"", MEMORY), Ended(0, known.wanted, b"")
     ends_well = False
     for number in range(1, MOST_ALLOCATIONS):
         more = {"LD_PRELOAD": library, "FAILING_ALLOCATION": str(number)}
-        got = runs.run(known.given, more=more)
+        with tempfile.TemporaryFile() as file:
+            file.write(known.given)
+            file.seek(0)
+            got = runs.run(stdin=file, more=more)
         is_last = ends_well
         ends_well = is_last or (number > least and got.status == 0)
         runs.expect(f"where allocation {number} fails", got, whole if ends_well else refused)

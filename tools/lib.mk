@@ -127,7 +127,7 @@ NODE := $(shell node -p 'parseInt(process.versions.node) < 20 ? "" : process.exe
 NODE_FLAGS = $(shell node -p 'parseInt(process.versions.node) < 24 ? "--experimental-wasm-memory64" : ""')
 
 test-js: $(if $(NODE),wasm) ## tests the calls of JavaScript; a part of the gate
-	@$(if $(NODE),timeout 900 node $(NODE_FLAGS) --test tests/js/*.test.js,echo "skipped: there is no node from 20 on")
+	@$(if $(NODE),timeout 900 node $(NODE_FLAGS) --test --test-reporter=spec tests/js/*.test.js,echo "skipped: there is no node from 20 on")
 
 # The page to try a format on, with all files that it needs, as it is served and released.
 PORT ?= 8000
