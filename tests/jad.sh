@@ -66,7 +66,9 @@ fault 'jad: invalid digit at byte 0' u16 ' 80'
 fault 'jad: invalid digit at byte 2' u16 '80
 '
 fault 'jad: invalid digit at byte 0' u16 "$(printf '\377')"
+ends 0 "$usage" "" --help
 misuse
+misuse --help u16
 misuse u16
 misuse u9 80
 misuse '' 80

@@ -1,6 +1,7 @@
 -- What a run writes, and how it ends.
-use Rattle.std.specs.Prelude.{ℕ, List, [], ◌∷◌, ◌++◌, codes, Option, None, Some, Result, Ok, Err}
+use Rattle.std.specs.Prelude.{ℕ, Bool, false, List, [], ◌∷◌, ◌++◌, codes, Option, None, Some, Result, Ok, Err, if◌then◌else◌}
 use Rattle.std.specs.Fmt.{signed_decimal}
+use Rattle.std.specs.Str.{bytes_eq}
 use lib.IntN.{ℤ}
 use Rattle.answer_lines.specs.Command.{type_of}
 use Rattle.lexical_parse_integer.specs.Grammar.{complete_if_valid}
@@ -32,6 +33,14 @@ outcome_asked None = record { output = []; error = usage ++ line_feed ∷ []; st
 outcome_asked (Some asked) =
     outcome_of (complete_if_valid asked.format (type_of asked.type) asked.text)
 
+-- the one argument asks how the program is called
+abbrev pub asks_for_help : List (List ℕ) → Bool
+asks_for_help (argument ∷ []) = bytes_eq argument (codes "--help")
+asks_for_help arguments = false
+
 -- what a run comes to for its arguments, without the program's name
 abbrev pub outcome_for : List (List ℕ) → Outcome
-outcome_for arguments = outcome_asked (asked_by arguments)
+outcome_for arguments =
+    if asks_for_help arguments
+    then record { output = usage ++ line_feed ∷ []; error = []; status = 0 }
+    else outcome_asked (asked_by arguments)

@@ -2,7 +2,7 @@
 
 ghost use Rattle.std.specs.Prelude.{◌≡◌, IfOk, map};
 ghost use Rattle.answer_lines.specs.Command.{type_of};
-ghost use Rattle.jad.specs.Outcome.{outcome_asked, outcome_for, outcome_of};
+ghost use Rattle.jad.specs.Outcome.{asks_for_help, outcome_asked, outcome_for, outcome_of};
 ghost use Rattle.jad.specs.Question.{Question};
 
 use crate::question::{Question, asked_by};
@@ -71,11 +71,28 @@ fn outcome_asked(alloc: Global, asked: Option<Question<'_>>) -> Result<Outcome, 
     }
 }
 
+// Whether the one argument asks how the program is called.
+fn asks_for_help(arguments: &[&[u8]]) -> bool
+    ensures { result ≡ asks_for_help (map (λ argument. argument.now) arguments.now) }
+{
+    match arguments {
+        [argument] => *argument == b"--help".as_slice(),
+        _ => false,
+    }
+}
+
 /// What a run comes to for its arguments, without the program's name. No contract says more than this of the program:
 /// `main` writes the two texts, and answers the status.
 pub fn outcome_for(alloc: Global, arguments: &[&[u8]]) -> Result<Outcome, AllocError>
     ensures { IfOk result (λ told. told
         ≡ outcome_for (map (λ argument. argument.now) arguments.now)) }
 {
+    if asks_for_help(arguments) {
+        return Ok(Outcome {
+            output: format!(in alloc; "{USAGE}\n")?,
+            error: String::new(alloc),
+            status: 0,
+        });
+    }
     outcome_asked(alloc, asked_by(arguments))
 }
