@@ -21,7 +21,7 @@ use Rattle.lexical_tables.specs.Targets.{TargetView, error_in, has_numbers, keep
 use Rattle.lexical_tables.proofs.NumbersPut.{as_values, same_error}
 use Rattle.jadvolni.specs.Arrays.{ArrayView, array_as, array_fault, array_in, number_type, put_answer, put_number as put_in, type_named}
 use Rattle.lexical_fixed.specs.Fixed.{Fixed}
-use Rattle.jadvolni.specs.Fixed.{IsPlainFixed, fixed_of}
+use Rattle.jadvolni.specs.Fixed.{fixed_of, integer_of}
 use Rattle.jadvolni.specs.FormatFields.{format_of}
 use Rattle.jadvolni.specs.Tables.{bits_of, column_status, lacks_bits, number_status, number_target, put_at, put_number, put_place, put_zero, reading_of, target_as, target_by, target_of, target_status, text_target, text_view}
 use Rattle.jadvolni.specs.declared.arrays.ArrayFields.{ArrayFields}
@@ -41,11 +41,11 @@ plain_kind format valid bare other =
     (λ is. other (eqb-true format.mantissa_radix 10 is)) in
     kind_with format None (sym valid) ∙ rw (bare, no_ten) refl
 
--- a plain description is that beside the standard format
-pub plain_is : (fields : FixedFields) (format : Fixed) → IsPlainFixed fields
+-- a description whose integer part has the standard format is that beside the standard format
+pub standard_is : (fields : FixedFields) (format : Fixed) → integer_of fields.integer ≡ standard
     → format ≡ record (fixed_of fields) { integer = standard } → format ≡ fixed_of fields
-plain_is fields format plain is =
-    is ∙ ap (λ integer. record (fixed_of fields) { integer = integer }) (sym plain.integer)
+standard_is fields format plain is =
+    is ∙ ap (λ integer. record (fixed_of fields) { integer = integer }) (sym plain)
 
 module _ (description : FixedFields) (type : IntegerType) where
   pub as_integers : description.places ≡ 0

@@ -1,27 +1,18 @@
-//! Fixed-point numbers as C reads them: the description, byte by byte, and the two calls of every type.
+//! Descriptions of fixed-point numbers as C writes them, byte by byte.
 
-ghost use Rattle.std.specs.Prelude.{◌≡◌, IsTrue, None};
-ghost use Rattle.lexical_fixed.specs.Grammar.{if_fixed};
+ghost use Rattle.std.specs.Prelude.{◌≡◌, IsTrue, None, true};
+ghost use Rattle.lexical_fixed.specs.Validity.{fixed_fault};
 ghost use Rattle.lexical_util.specs.Format.{standard};
-ghost use Rattle.lexical_parse_integer.specs.Answer.{view_of, with_place};
-ghost use Rattle.jadvolni.specs.Effect.{effect};
-ghost use Rattle.jadvolni.specs.Fixed.{IsPlainFixed, fixed_call, fixed_format_status, fixed_front_call, fixed_known, fixed_of, fixed_status, front_effect, integer_of, whole_effect};
-ghost use Rattle.jadvolni.specs.FormatFields.{are_known, are_zeros};
+ghost use Rattle.lexical_util.specs.Kind.{kind_of};
+ghost use Rattle.lexical_util.specs.declared.format.kind.FormatKind.TheVariants.{Decimal};
+ghost use Rattle.jadvolni.specs.Fixed.{IsPlainFixed, fixed_format_status, fixed_known, fixed_of, fixed_status, integer_of};
+ghost use Rattle.jadvolni.specs.FormatFields.{are_known, are_zeros, format_of};
 ghost use Rattle.jadvolni.specs.Tables.{number_status};
 
-use crate::calls::UNKNOWN;
 use crate::format::FormatFields;
-use crate::outcome::{Outcome, UNKNOWN_FIELD, status_of};
-use crate::slot::Slot;
-use lexical_fixed::quick::{
-    complete_if_long, complete_if_not_short, front_at_once, partial_if_left, value_if_common,
-    value_if_fewer,
-};
+use crate::outcome::{UNKNOWN_FIELD, status_of};
 use lexical_fixed::{FixedFormat, FixedFormatError};
-use lexical_parse_integer::NumberFormat;
 use lexical_parse_integer::format::STANDARD;
-use lexical_util::num::Integer;
-use lexical_util::result::Result;
 
 /// A description of fixed-point numbers, byte by byte: `jadvolni_fixed` in C, where each field is described.
 ///
@@ -36,21 +27,19 @@ pub struct FixedFields {
     pub reserved: [u8; 13],
 }
 
-// The format of the integer part.
+// Makes the fields of the integer part those of its format: where the radix is 0, it is 10, and a digit is required.
 #[inline(always)]
-fn integer_format(fields: &FormatFields) -> NumberFormat
-    ensures { result ≡ integer_of fields.now }
+fn set_radix(fields: &mut FormatFields)
+    ensures { format_of fields.new ≡ integer_of fields.old }
 {
-    let mut fields = *fields;
     if fields.mantissa_radix == 0 {
         fields.mantissa_radix = 10;
         fields.required_mantissa_digits = 1;
     }
-    fields.format()
 }
 
 // The status of a fault of a description.
-fn fixed_status(error: FixedFormatError) -> u32
+pub(crate) fn fixed_status(error: FixedFormatError) -> u32
     ensures { result ≡ fixed_status error }
 {
     match error {
@@ -123,17 +112,51 @@ impl FixedFields {
         self.integer.is_standard() || self.integer.is_zero()
     }
 
+    // Whether the integer part is decimal and has no punctuation, and nothing that is unknown.
+    #[inline(always)]
+    pub(crate) fn has_decimal_integer(&self) -> bool
+        ensures known { IsTrue result → IsTrue (are_known self.now.integer) }
+        ensures kind { IsTrue result → kind_of (integer_of self.now.integer) ≡ Decimal }
+    {
+        self.integer.is_plain_decimal() || self.integer.is_plain_but_radix()
+    }
+
     // Whether the description is valid and its integer part has the standard format: few words of it say so.
     #[inline(always)]
     pub(crate) fn is_plain(&self) -> bool
         ensures { IsTrue result → IsPlainFixed self.now }
     {
-        self.has_standard_integer() && self.keeps_reserved() && self.plain().is_plain()
+        self.has_standard_integer() && self.keeps_reserved() && self.standard().is_plain()
+    }
+
+    // Whether the description is valid, whose integer part is decimal and has no punctuation.
+    #[inline(always)]
+    pub(crate) fn is_decimal(&self) -> bool
+        requires known { IsTrue (are_known self.now.integer) }
+        requires kind { kind_of (integer_of self.now.integer) ≡ Decimal }
+        ensures known { IsTrue result → fixed_known self.now ≡ true }
+        ensures valid { IsTrue result → fixed_fault (fixed_of self.now) ≡ None }
+    {
+        self.keeps_reserved() && self.decimal().is_plain()
+    }
+
+    // The description, whose integer part is decimal and has no punctuation.
+    #[inline(always)]
+    pub(crate) fn decimal(&self) -> FixedFormat
+        requires { kind_of (integer_of self.now.integer) ≡ Decimal }
+        ensures { result ≡ fixed_of self.now }
+    {
+        let mut integer = self.integer;
+        set_radix(&mut integer);
+        FixedFormat {
+            integer: integer.decimal_format(),
+            ..self.standard()
+        }
     }
 
     // The description beside the standard format, which isn't made field by field.
     #[inline(always)]
-    pub(crate) fn plain(&self) -> FixedFormat
+    pub(crate) fn standard(&self) -> FixedFormat
         ensures { result ≡ record (fixed_of self.now) { integer = standard } }
     {
         FixedFormat {
@@ -144,190 +167,31 @@ impl FixedFields {
         }
     }
 
+    // The description of fields for which it is valid, as for each cell of a column.
+    #[inline(always)]
+    pub(crate) fn valid_format(&self) -> FixedFormat
+        requires { fixed_fault (fixed_of self.now) ≡ None }
+        ensures { result ≡ fixed_of self.now }
+    {
+        let mut integer = self.integer;
+        set_radix(&mut integer);
+        FixedFormat {
+            integer: integer.valid_format(),
+            ..self.standard()
+        }
+    }
+
     /// The description that the fields stand for, which may be invalid.
     #[inline(always)]
     pub fn format(&self) -> FixedFormat
         ensures { result ≡ fixed_of self.now }
     {
+        let mut integer = self.integer;
+        set_radix(&mut integer);
         FixedFormat {
-            integer: integer_format(&self.integer),
-            ..self.plain()
+            integer: integer.format(),
+            ..self.standard()
         }
-    }
-}
-
-// Hands over what a whole text of `size` bytes is, under a valid description.
-#[inline(always)]
-fn store<T: Integer, S: Slot<T>>(answer: Result<T>, size: usize, value: &mut S) -> Outcome
-    ensures { effect result (S.number value.new)
-        ≡ whole_effect size (S.number value.old) (if_fixed None (view_of T.number answer)) }
-{
-    match answer {
-        Ok(number) => {
-            value.put(number);
-            Outcome {
-                status: 0,
-                place: size,
-            }
-        }
-        Err(error) => Outcome::of_fault(error),
-    }
-}
-
-// Hands over what a text's front is, under a valid description.
-#[inline(always)]
-fn give_front<T: Integer, S: Slot<T>>(answer: Result<(T, usize)>, value: &mut S) -> Outcome
-    ensures { effect result (S.number value.new)
-        ≡ front_effect (S.number value.old) (if_fixed None (view_of (with_place T.number) answer)) }
-{
-    match answer {
-        Ok((number, place)) => {
-            value.put(number);
-            Outcome { status: 0, place }
-        }
-        Err(error) => Outcome::of_fault(error),
-    }
-}
-
-// What an invalid description is to C.
-fn refusal(error: FixedFormatError) -> Outcome
-    ensures status { result.status ≡ fixed_status error }
-    ensures place { result.place ≡ 0 }
-{
-    Outcome {
-        status: fixed_status(error),
-        place: 0,
-    }
-}
-
-// The whole text, under a description that is made field by field.
-#[inline(never)]
-fn fixed_any<T: Integer, S: Slot<T>>(text: &[u8], fields: &FixedFields, value: &mut S) -> Outcome
-    ensures { effect result (S.number value.new)
-        ≡ fixed_call fields.now T.TYPE text.now (S.number value.old) }
-{
-    if !fields.are_known() {
-        return UNKNOWN;
-    }
-    let format = fields.format();
-    match format.error() {
-        Some(error) => refusal(error),
-        None => store(complete_if_not_short::<T>(text, &format), text.len(), value),
-    }
-}
-
-// The whole text, under a plain description, for a text that isn't short.
-#[inline(never)]
-fn fixed_long<T: Integer, S: Slot<T>>(text: &[u8], fields: &FixedFields, value: &mut S) -> Outcome
-    requires { IsPlainFixed fields.now }
-    ensures { effect result (S.number value.new)
-        ≡ fixed_call fields.now T.TYPE text.now (S.number value.old) }
-{
-    store(
-        complete_if_long::<T>(text, &fields.plain()),
-        text.len(),
-        value,
-    )
-}
-
-// The whole text, under a plain description that takes fewer places. It needs no stack, which the longer way needs.
-#[inline(never)]
-fn fixed_fewer<T: Integer, S: Slot<T>>(text: &[u8], fields: &FixedFields, value: &mut S) -> Outcome
-    requires { IsPlainFixed fields.now }
-    ensures { effect result (S.number value.new)
-        ≡ fixed_call fields.now T.TYPE text.now (S.number value.old) }
-{
-    match value_if_fewer::<T>(text, &fields.plain()) {
-        Some(number) => store(Ok(number), text.len(), value),
-        None => fixed_long::<T, S>(text, fields, value),
-    }
-}
-
-// Whether a text may be read with fewer places, and isn't so short that it was tried: behind a sign it has up to sixteen bytes.
-#[inline(always)]
-fn may_lack_places<T: Integer>(text: &[u8], fields: &FixedFields) -> bool {
-    fields.takes_fewer != 0 && text.len() <= 17 && (T::BITS > 64 || text.len() > 8)
-}
-
-// The whole text, under a plain description, for a text without all places or one that isn't short. Out of line, so that a short
-// text pays for no choice.
-#[inline(never)]
-fn fixed_plain<T: Integer, S: Slot<T>>(text: &[u8], fields: &FixedFields, value: &mut S) -> Outcome
-    requires { IsPlainFixed fields.now }
-    ensures { effect result (S.number value.new)
-        ≡ fixed_call fields.now T.TYPE text.now (S.number value.old) }
-{
-    if may_lack_places::<T>(text, fields) {
-        return fixed_fewer::<T, S>(text, fields, value);
-    }
-    fixed_long::<T, S>(text, fields, value)
-}
-
-/// The whole text, under a description that may be invalid. A short one is read in place where the description is plain.
-#[inline(always)]
-pub fn fixed<T: Integer, S: Slot<T>>(text: &[u8], fields: &FixedFields, value: &mut S) -> Outcome
-    ensures { effect result (S.number value.new)
-        ≡ fixed_call fields.now T.TYPE text.now (S.number value.old) }
-{
-    if !fields.is_plain() {
-        return fixed_any::<T, S>(text, fields, value);
-    }
-    match value_if_common::<T>(text, &fields.plain()) {
-        Some(number) => store(Ok(number), text.len(), value),
-        None => fixed_plain::<T, S>(text, fields, value),
-    }
-}
-
-// The number in front of the text, under a description that is made field by field.
-#[inline(never)]
-fn fixed_front_any<T: Integer, S: Slot<T>>(
-    text: &[u8],
-    fields: &FixedFields,
-    value: &mut S,
-) -> Outcome
-    ensures { effect result (S.number value.new)
-        ≡ fixed_front_call fields.now T.TYPE text.now (S.number value.old) }
-{
-    if !fields.are_known() {
-        return UNKNOWN;
-    }
-    let format = fields.format();
-    match format.error() {
-        Some(error) => refusal(error),
-        None => give_front(partial_if_left::<T>(text, &format), value),
-    }
-}
-
-// The number in front of the text, under a plain description, where it isn't read at once.
-#[inline(never)]
-fn fixed_front_plain<T: Integer, S: Slot<T>>(
-    text: &[u8],
-    fields: &FixedFields,
-    value: &mut S,
-) -> Outcome
-    requires { IsPlainFixed fields.now }
-    ensures { effect result (S.number value.new)
-        ≡ fixed_front_call fields.now T.TYPE text.now (S.number value.old) }
-{
-    give_front(partial_if_left::<T>(text, &fields.plain()), value)
-}
-
-/// The number in front of the text, under a description that may be invalid. Most are read in place, as by [`fixed`].
-#[inline(always)]
-pub fn fixed_front<T: Integer, S: Slot<T>>(
-    text: &[u8],
-    fields: &FixedFields,
-    value: &mut S,
-) -> Outcome
-    ensures { effect result (S.number value.new)
-        ≡ fixed_front_call fields.now T.TYPE text.now (S.number value.old) }
-{
-    if !fields.is_plain() {
-        return fixed_front_any::<T, S>(text, fields, value);
-    }
-    match front_at_once::<T>(text, &fields.plain()) {
-        Some(found) => give_front(Ok(found), value),
-        None => fixed_front_plain::<T, S>(text, fields, value),
     }
 }
 

@@ -5,7 +5,8 @@ ghost use Rattle.jadvolni.specs.Effect.{effect, signed, unsigned};
 ghost use Rattle.jadvolni.specs.Fixed.{fixed_call, fixed_front_call};
 ghost use Rattle.jadvolni.specs.Halves.{signed_number, unsigned_number};
 
-use crate::fixed::{FixedFields, fixed, fixed_front};
+use crate::fixed::FixedFields;
+use crate::fixed_texts::{fixed, fixed_front};
 use crate::halves::{Signed128, Unsigned128};
 use crate::outcome::Outcome;
 

@@ -1,6 +1,7 @@
 //! The columns of a table that have fixed-point numbers.
 
 ghost use Rattle.std.specs.Prelude.{◌≡◌, ◌≢◌, ◌+◌, ◌<◌, ◌≤◌, ◌^◌, ℕ, IsTrue, None, false, length, take, true, option_map};
+ghost use Rattle.lexical_fixed.specs.Validity.{fixed_fault};
 ghost use Rattle.lexical_tables.specs.Amounts.{HasAmounts, HasAmountsIfFixed, IsAmountText};
 ghost use Rattle.lexical_tables.specs.ByColumn.{IsUsable};
 ghost use Rattle.lexical_tables.specs.Codes.{IsCode};
@@ -15,25 +16,26 @@ use lexical_tables::codes::{AT_ONCE, PARSED};
 use lexical_tables::{is_quick, units_of_front};
 
 impl ColumnFields<'_> {
-    // The description of its fixed-point numbers. A plain one isn't made field by field.
+    // The description of its fixed-point numbers. One with the standard format isn't made field by field.
     #[inline(always)]
-    #[tactic(auto, using(crate::proofs::ColumnNumbers::plain_is))]
+    #[tactic(auto, using(crate::proofs::ColumnNumbers::standard_is))]
     fn fixed_format(&self) -> FixedFormat
+        requires { fixed_fault (fixed_of self.now.description) ≡ None }
         ensures { result ≡ fixed_of self.now.description }
     {
-        if self.description.is_plain() {
-            return self.description.plain();
+        if self.description.has_standard_integer() {
+            return self.description.standard();
         }
-        self.description.format()
+        self.description.valid_format()
     }
 
-    // The code of a column of fixed-point numbers: those of the standard format with few places are read at once, others parsed.
+    // The code of a column of fixed-point numbers: those of decimal formats with few places are read at once, others parsed.
     #[inline(always)]
     pub(crate) fn fixed_code(&self) -> u8
         requires numbers { has_numbers (target_of self.now) ≡ true }
         ensures { IsCode result (target_of self.now) }
     {
-        if self.description.places <= 6 && self.description.has_standard_integer() {
+        if self.description.places <= 6 && self.description.has_decimal_integer() {
             AT_ONCE
         } else {
             PARSED
@@ -45,13 +47,13 @@ impl ColumnFields<'_> {
     pub(crate) fn has_quick_amounts(&self) -> bool
         ensures { IsTrue result → HasAmounts (target_of self.now) }
     {
-        if self.description.places == 0 || !self.description.has_standard_integer() {
+        if self.description.places == 0 || !self.description.has_decimal_integer() {
             return false;
         }
         let Some(_) = self.arrays.number_type() else {
             return false;
         };
-        is_quick(&self.description.plain())
+        is_quick(&self.description.decimal())
     }
 
     // Puts the amount of a text's first `size` bytes into a row's place, where it is read at once. A column of fixed-point
@@ -75,7 +77,7 @@ impl ColumnFields<'_> {
         let Some(numbers) = self.arrays.number_type() else {
             return false;
         };
-        let format = self.description.plain();
+        let format = self.description.standard();
         let Some((is_negative, units)) = units_of_front(
             ahead,
             size,
@@ -113,7 +115,7 @@ impl ColumnFields<'_> {
     }
 
     // Puts the fixed-point number of a text's first `size` bytes into a row's place, where it is read at once and its integer
-    // part has the standard format.
+    // part is decimal.
     #[inline(never)]
     pub(crate) fn put_fixed_at_once(&mut self, row: usize, ahead: &[u8], size: usize) -> bool
         requires places { self.old.description.places ≢ 0 }
@@ -126,10 +128,10 @@ impl ColumnFields<'_> {
             (target_of self.old) }
         ensures kept { result ≡ false → target_of self.new ≡ target_of self.old }
     {
-        if !self.description.has_standard_integer() {
+        if !self.description.has_decimal_integer() {
             return false;
         }
-        let format = self.description.plain();
+        let format = self.description.decimal();
         let Some(numbers) = self.arrays.number_type() else {
             return false;
         };

@@ -119,6 +119,25 @@ impl FormatFields {
         first == 10 && asks_for_no_literals(self) && self.required_mantissa_sign == 0
     }
 
+    /// Whether the radix is 0 and the format is known, and without punctuation: beside radix 10 its kind needn't be found.
+    #[inline(always)]
+    pub(crate) fn is_plain_but_radix(&self) -> bool
+        ensures radix { IsTrue result → self.now.mantissa_radix ≡ 0 }
+        ensures known { IsTrue result → IsTrue (are_known self.now) }
+        ensures kind { IsTrue result → kind_of (record (format_of self.now) {
+          mantissa_radix = 10;
+          required_mantissa_digits = true;
+        }) ≡ Decimal }
+    {
+        let first = u32::from_le_bytes([
+            self.mantissa_radix,
+            self.digit_separator,
+            self.base_prefix,
+            self.base_suffix,
+        ]);
+        first == 0 && asks_for_no_literals(self) && self.required_mantissa_sign == 0
+    }
+
     /// Whether neither a separator, a prefix nor a suffix is asked for, nor the prefixes of literals.
     #[inline(always)]
     pub(crate) fn has_radix_alone(&self) -> bool {

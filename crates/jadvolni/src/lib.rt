@@ -9,6 +9,7 @@ pub mod columns;
 pub mod fixed;
 pub mod fixed_calls;
 mod fixed_columns;
+pub mod fixed_texts;
 pub mod fold;
 pub mod format;
 mod format_words;

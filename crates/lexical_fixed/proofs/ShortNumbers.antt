@@ -2,7 +2,7 @@
 use Rattle.std.proofs.Common.{◌≡◌, ℕ, zero, suc, ◌+◌, ◌-◌, ◌*◌, ◌^◌, ◌≤◌, ◌<◌, Bool, true, false, cond, not, ◌&&◌, List, [], ◌∷◌, ◌++◌, length, get_or, take, drop, Option, Some, None, IsNone, is_some, option_and_then, Ok, refl, sym, ap, subst, ◌∙◌, arith, inl, inr, ◌⊎◌}
 use Rattle.std.proofs.Math.IntN.{ℤ, pos}
 use Rattle.std.proofs.Math.Nat.{one-le-pow, mul-le-mul_left, pow-le-pow_right}
-use Rattle.std.specs.Prelude.{◌==◌, if◌then◌else◌, neg_ℤ, IfSome, slice_get, slice_range}
+use Rattle.std.specs.Prelude.{◌==◌, if◌then◌else◌, nat_le, neg_ℤ, IfSome, slice_get, slice_range}
 use Rattle.std.proofs.lemmas.Bool.{eqb-true, lt-ltb}
 use Rattle.std.proofs.lemmas.Bool.Decides.{nat_tests}
 use Rattle.std.proofs.lemmas.List.{length-drop, take_all}
@@ -21,13 +21,13 @@ use Rattle.lexical_digits.proofs.WordsInFront.{rest_is}
 use Rattle.lexical_digits.proofs.WordsOfDigits.{digits_below, value_joined}
 use Rattle.lexical_parse_integer.specs.Grammar.{partial}
 use Rattle.lexical_parse_integer.specs.Laws.{TellsDigits}
-use Rattle.lexical_parse_integer.specs.Plain.{BeginsWith, IsBehind, IsPlain}
+use Rattle.lexical_parse_integer.specs.Plain.{BeginsWith, IsBehind, IsPlain, keeps_zero_rule}
 use Rattle.lexical_parse_integer.specs.Runs.{are_same, digit_at}
 use Rattle.lexical_parse_integer.specs.Stops.{stops_after_digit}
 use Rattle.lexical_parse_integer.proofs.ForCallers.{begins_read}
 use Rattle.lexical_fixed.specs.Fixed.{Fixed}
 use Rattle.lexical_fixed.specs.Grammar.{complete_fixed, is_negative}
-use Rattle.lexical_fixed.specs.Quick.{IsBare, IsFilled, IsFilledWhole, IsFraction, IsJoined, IsLastPoint, IsValueWithout, without}
+use Rattle.lexical_fixed.specs.Quick.{IsBare, IsFilled, IsFilledWhole, IsFraction, IsJoined, IsLastPoint, IsValueWithout, leads_with_zero, without}
 use Rattle.lexical_fixed.specs.Validity.{fixed_fault, fixed_fault_by, has_affix, is_unfit_point}
 use Rattle.lexical_fixed.specs.declared.error.FixedFormatError.{FixedFormatError}
 use Rattle.lexical_fixed.specs.declared.error.FixedFormatError.TheVariants.{Affix, Point, Radix}
@@ -139,13 +139,43 @@ plain_of f valid bare =
       no_sign = bare.no_sign;
     }
 
+-- where zeros may stand in front, none that may not leads
+pub no_zero_leads : (f : Fixed) (digits : List ℕ) → IsBare f.integer → leads_with_zero f digits ≡ false
+no_zero_leads f digits bare = rw bare.no_rule refl
+
+-- digits before the point keep the rule on zeros, where no zero leads
+rule_before : (f : Fixed) (digits : List ℕ) (place : ℕ) → IsNone (fixed_fault f) → leads_with_zero f digits ≡ false → AreDigits 10 (take place digits) → keeps_zero_rule f.integer (take place digits) ≡ true
+rule_before f digits place valid lead all = by_rule f.integer.no_integer_leading_zeros refl
+  where
+    first_two : (d e : ℕ) (rest : List ℕ) (n : ℕ) (is_zero is_point : Bool) → (d == 48) ≡ is_zero → (e == f.point) ≡ is_point → f.integer.no_integer_leading_zeros ≡ true
+        → leads_with_zero f (d ∷ e ∷ rest) ≡ false → is_some (digit 10 e) ≡ true → keeps_zero_rule f.integer (d ∷ e ∷ take n rest) ≡ true
+    first_two d e rest n false is_point zeros point rule lead there =
+        let two : nat_le 2 (length (d ∷ e ∷ take n rest)) ≡ true = grind (arith, nat_tests) in
+        rw (rule, two, zeros) refl
+    first_two d e rest n true true zeros point rule lead there = absurd (let none = point_no_digit f valid in let same = eqb-true e f.point point in cc)
+    first_two d e rest n true false zeros point rule lead there =
+        let two : nat_le 2 (length (d ∷ e ∷ rest)) ≡ true = grind (arith, nat_tests) in
+        absurd (let no = rw (rule, two, zeros, point) at lead in cc)
+
+    by_place : (ds : List ℕ) (n : ℕ) → f.integer.no_integer_leading_zeros ≡ true → leads_with_zero f ds ≡ false → AreDigits 10 (take n ds) → keeps_zero_rule f.integer (take n ds) ≡ true
+    by_place [] zero rule lead all = rw rule refl
+    by_place [] (suc n) rule lead all = rw rule refl
+    by_place (d ∷ ds) zero rule lead all = rw rule refl
+    by_place (d ∷ ds) (suc zero) rule lead all = rw rule refl
+    by_place (d ∷ []) (suc (suc n)) rule lead all = rw rule refl
+    by_place (d ∷ e ∷ ds) (suc (suc n)) rule lead all = first_two d e ds n (d == 48) (e == f.point) refl refl rule lead all.1.0
+
+    by_rule : (b : Bool) → f.integer.no_integer_leading_zeros ≡ b → keeps_zero_rule f.integer (take place digits) ≡ true
+    by_rule false rule = rw rule refl
+    by_rule true rule = by_place digits place rule lead all
+
 -- the number of digits, with `count` of them behind the point, and zeros for the missing places
-pub point_read : (f : Fixed) (t : IntegerType) (b : Bool) (text digits : List ℕ) (place count number : ℕ) (written units : ℤ) (zeros : ℕ) → IsNone (fixed_fault f) → IsBare f.integer → (IsNone f.integer.base_suffix → TellsDigits f.integer t text)
+pub point_read : (f : Fixed) (t : IntegerType) (b : Bool) (text digits : List ℕ) (place count number : ℕ) (written units : ℤ) (zeros : ℕ) → IsNone (fixed_fault f) → IsPlain f.integer → leads_with_zero f digits ≡ false → (IsNone f.integer.base_suffix → TellsDigits f.integer t text)
     → IsBehind b t text digits → b ≡ is_negative t text → IsLastPoint f digits place count → IsJoined (without place digits) number → written ≡ with_sign b number → IsNumber t written
     → zeros ≡ f.places - count → (f.places ≤ count) ⊎ (f.takes_fewer ≡ true)
     → ((zeros ≡ 0) × (units ≡ written)) ⊎ ((units ≡ mul_add b written (pos (10 ^ zeros)) (pos 0)) × (is_number t units ≡ true))
     → complete_fixed f t text ≡ Ok units
-point_read f t b text digits place count number written units zeros valid bare law behind minus at joined is fits left taken filled =
+point_read f t b text digits place count number written units zeros valid plain lead law behind minus at joined is fits left taken filled =
     let start : ℕ = bool_byte b in
     let size = at.size in
     let before : List ℕ = take place digits in
@@ -167,10 +197,10 @@ point_read f t b text digits place count number written units zeros valid bare l
       some = at.before;
       within = omega arith;
       stops = λ less. ap (λ byte. is_some (digit 10 byte)) (byte_there f.point digits place at.point) ∙ point_no_digit f valid;
-      rule = rw bare.no_rule refl;
+      rule = rule_before f digits place valid lead parts.0;
       stands = stands t b before whole (with_sign b whole) (writes_text before whole parts.0 refl) refl whole_fits;
     } in
-    let front : partial f.integer t text ≡ Ok (with_sign b whole, start + place) = begins_read f.integer t b text digits (with_sign b whole) place start (plain_of f valid bare) (decimal_of f valid).radix behind refl begins in
+    let front : partial f.integer t text ≡ Ok (with_sign b whole, start + place) = begins_read f.integer t b text digits (with_sign b whole) place start plain (decimal_of f valid).radix behind refl begins in
     let part = part_by_front f t text (with_sign b whole) (start + place) valid law front (ends_with_digit b t text digits place behind at.before (omega arith) parts.0) in
     let point : are_same (Some f.point) (slice_get text (start + place)) ≡ true = ap (are_same (Some f.point)) (behind_get b t text digits place behind) ∙ at.point in
     let next : start + place + 1 ≡ start + (place + 1) = omega arith in
@@ -185,13 +215,13 @@ point_read f t b text digits place count number written units zeros valid bare l
     complete_by_front f t text units (partial_by_part f t text (with_sign b whole) (start + place) part ∙ joined_front ∙ ap (λ k. Ok (units, k)) ends)
 
 -- so is a value that was found for all places
-pub short_found : {V : Type 0} (number_of : V → ℤ) (f : Fixed) (t : IntegerType) (b : Bool) (text digits : List ℕ) (place : ℕ) (found : Option V) → IsNone (fixed_fault f) → IsBare f.integer
+pub short_found : {V : Type 0} (number_of : V → ℤ) (f : Fixed) (t : IntegerType) (b : Bool) (text digits : List ℕ) (place : ℕ) (found : Option V) → IsNone (fixed_fault f) → IsPlain f.integer → leads_with_zero f digits ≡ false
     → (IsNone f.integer.digit_separator → IsNone f.integer.base_suffix → TellsDigits f.integer t text)
     → IsBehind b t text digits → b ≡ is_negative t text → IsLastPoint f digits place f.places
     → IfSome found (λ v. IsValueWithout t b place digits (number_of v)) → IfSome found (λ v. complete_fixed f t text ≡ Ok (number_of v))
-short_found number_of f t b text digits place None valid bare law behind minus at is = tt
-short_found number_of f t b text digits place (Some v) valid bare law behind minus at is =
-    point_read f t b text digits place f.places is.number (number_of v) (number_of v) 0 valid bare (law (is_none f.integer.digit_separator bare.no_separator)) behind minus at is.joined is.worth is.fits
+short_found number_of f t b text digits place None valid plain lead law behind minus at is = tt
+short_found number_of f t b text digits place (Some v) valid plain lead law behind minus at is =
+    point_read f t b text digits place f.places is.number (number_of v) (number_of v) 0 valid plain lead (law (is_none f.integer.digit_separator plain.no_separator)) behind minus at is.joined is.worth is.fits
     (omega arith) (inl (omega arith)) (inl (refl, refl))
 
 -- and one with zeros for places that lack
@@ -199,7 +229,7 @@ pub filled_read : (f : Fixed) (t : IntegerType) (b : Bool) (text digits : List �
     → (IsNone f.integer.digit_separator → IsNone f.integer.base_suffix → TellsDigits f.integer t text)
     → IsBehind b t text digits → b ≡ is_negative t text → IsFilled f t b digits units → complete_fixed f t text ≡ Ok units
 filled_read f t b text digits units valid bare law behind minus it =
-    point_read f t b text digits it.place it.count it.digits.number it.written units (f.places - it.count) valid bare (law (is_none f.integer.digit_separator bare.no_separator)) behind minus it.point it.digits.joined it.digits.worth it.digits.fits
+    point_read f t b text digits it.place it.count it.digits.number it.written units (f.places - it.count) valid (plain_of f valid bare) (no_zero_leads f digits bare) (law (is_none f.integer.digit_separator bare.no_separator)) behind minus it.point it.digits.joined it.digits.worth it.digits.fits
     refl (inr it.takes) (inr (it.filled, it.fits))
 
 -- a value that was found, with zeros for places that lack

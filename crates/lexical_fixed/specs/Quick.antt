@@ -1,5 +1,6 @@
 -- What the quick way finds out about a text, before it has a number.
-use Rattle.std.specs.Prelude.{◌≡◌, ◌+◌, ◌-◌, ◌^◌, pos, ◌<◌, ◌≤◌, ℕ, ℤ, ◌==◌, Bool, true, false, if◌then◌else◌, List, ◌++◌, drop, length, slice_get, take, None, Some}
+use Rattle.std.specs.Prelude.{◌≡◌, ◌+◌, ◌-◌, ◌^◌, pos, ◌<◌, ◌≤◌, ℕ, ℤ, ◌==◌, ◌&&◌, Bool, true, false, not, nat_le, if◌then◌else◌, List, ◌++◌, drop, length, slice_get, slice_index, take, None, Some}
+use Rattle.lexical_util.specs.Ascii.{digit_zero}
 use Rattle.lexical_digits.specs.Value.{with_sign}
 use Rattle.lexical_digits.specs.Words.{AreDigits, word_value}
 use Rattle.lexical_util.specs.Format.{Format}
@@ -24,6 +25,12 @@ pub record IsFraction (fixed : Fixed) (text : List ℕ) (place number count : �
 -- the bytes but for the one at a place
 abbrev pub without : ℕ → List ℕ → List ℕ
 without place bytes = take place bytes ++ drop (place + 1) bytes
+
+-- a zero stands in front of another byte than the point, where the integer part's format forbids zeros there
+abbrev pub leads_with_zero : Fixed → List ℕ → Bool
+leads_with_zero fixed bytes =
+    fixed.integer.no_integer_leading_zeros && nat_le 2 (length bytes)
+    && (slice_index bytes 0 == digit_zero) && not (slice_index bytes 1 == fixed.point)
 
 -- Bytes are digits, which write a number.
 pub record IsJoined (bytes : List ℕ) (number : ℕ) : Type 0 where

@@ -6,35 +6,54 @@ ghost use Rattle.lexical_fixed.specs.Validity.{fixed_fault};
 
 use crate::error::FixedError;
 use crate::format::FixedFormat;
-use crate::parse::{complete, complete_if_not_short, partial};
+use crate::parse::{complete_if_not_short, partial_if_left};
+use crate::quick::{front_at_once, value_if_short};
 use lexical_util::num::Integer;
 use lexical_util::result::Result;
+
+// The number of a whole text that isn't short, out of line, so that a short one pays for none of it.
+#[inline(never)]
+fn read_not_short<T: Integer>(text: &[u8], format: &FixedFormat) -> Result<T>
+    requires valid { IsNone (fixed_fault format.now) }
+    ensures { view_of T.number result ≡ complete_fixed format.now T.TYPE text.now }
+{
+    complete_if_not_short::<T>(text, format)
+}
 
 /// An integer type that is read from fixed-point numbers under a valid description.
 ///
 /// It is for callers that test the description once, by [`FixedFormat::is_valid`], and then read many texts.
 pub trait ParseFixed: Integer {
     /// The number that the whole text stands for, in units of the last place, as `from_fixed` answers it.
-    #[inline]
     fn parse_fixed(bytes: &[u8], format: &FixedFormat) -> Result<Self>
         requires valid { IsNone (fixed_fault format.now) }
-        ensures { view_of Self.number result ≡ complete_fixed format.now Self.TYPE bytes.now }
-    {
-        complete::<Self>(bytes, format)
-    }
+        ensures { view_of Self.number result ≡ complete_fixed format.now Self.TYPE bytes.now };
 
     /// The number in front of the text, and the place at which reading stops, as `from_fixed_partial` answers them.
-    #[inline]
     fn parse_fixed_partial(bytes: &[u8], format: &FixedFormat) -> Result<(Self, usize)>
         requires valid { IsNone (fixed_fault format.now) }
         ensures { view_of (with_place Self.number) result
-            ≡ partial_fixed format.now Self.TYPE bytes.now }
-    {
-        partial::<Self>(bytes, format)
-    }
+            ≡ partial_fixed format.now Self.TYPE bytes.now };
 }
 
-impl<T: Integer> ParseFixed for T {}
+// The bodies stand here and below, since no `inline` has an effect on those that a trait provides.
+impl<T: Integer> ParseFixed for T {
+    #[inline(always)]
+    fn parse_fixed(bytes: &[u8], format: &FixedFormat) -> Result<T> {
+        match value_if_short::<T>(bytes, format) {
+            Some(value) => Ok(value),
+            None => read_not_short::<T>(bytes, format),
+        }
+    }
+
+    #[inline(always)]
+    fn parse_fixed_partial(bytes: &[u8], format: &FixedFormat) -> Result<(T, usize)> {
+        match front_at_once::<T>(bytes, format) {
+            Some(found) => Ok(found),
+            None => partial_if_left::<T>(bytes, format),
+        }
+    }
+}
 
 // The number of the whole text, under a description that isn't plain. Out of line, so that a plain one pays for none.
 #[inline(never)]
@@ -70,18 +89,8 @@ pub trait FromFixed: ParseFixed {
     ///   the type: with two places `3` as a `u8` is 300.
     ///
     /// A description that is invalid is refused, whatever the text, by the fault of its first broken rule.
-    #[inline(always)]
     fn from_fixed(bytes: &[u8], format: &FixedFormat) -> std::result::Result<Self, FixedError>
-        ensures { view_of Self.number result ≡ complete_if_fixed format.now Self.TYPE bytes.now }
-    {
-        if !format.is_plain() {
-            return whole_under_any::<Self>(bytes, format);
-        }
-        match complete::<Self>(bytes, format) {
-            Ok(value) => Ok(value),
-            Err(error) => Err(FixedError::Text(error)),
-        }
-    }
+        ensures { view_of Self.number result ≡ complete_if_fixed format.now Self.TYPE bytes.now };
 
     /// The number in front of the text, in units of the last place, and the place at which reading stops.
     ///
@@ -95,16 +104,32 @@ pub trait FromFixed: ParseFixed {
         format: &FixedFormat,
     ) -> std::result::Result<(Self, usize), FixedError>
         ensures { view_of (with_place Self.number) result
-            ≡ partial_if_fixed format.now Self.TYPE bytes.now }
-    {
+            ≡ partial_if_fixed format.now Self.TYPE bytes.now };
+}
+
+impl<T: Integer> FromFixed for T {
+    #[inline(always)]
+    fn from_fixed(bytes: &[u8], format: &FixedFormat) -> std::result::Result<T, FixedError> {
+        if !format.is_plain() {
+            return whole_under_any::<T>(bytes, format);
+        }
+        match T::parse_fixed(bytes, format) {
+            Ok(value) => Ok(value),
+            Err(error) => Err(FixedError::Text(error)),
+        }
+    }
+
+    #[inline]
+    fn from_fixed_partial(
+        bytes: &[u8],
+        format: &FixedFormat,
+    ) -> std::result::Result<(T, usize), FixedError> {
         match format.error() {
             Some(broken) => Err(FixedError::Format(broken)),
-            None => match partial::<Self>(bytes, format) {
+            None => match T::parse_fixed_partial(bytes, format) {
                 Ok(found) => Ok(found),
                 Err(error) => Err(FixedError::Text(error)),
             },
         }
     }
 }
-
-impl<T: Integer> FromFixed for T {}

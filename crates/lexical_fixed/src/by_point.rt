@@ -1,10 +1,9 @@
 // Whole texts by their last point: short ones by words. Of others the bytes before the point are read as a whole number under the
 // integer part's format, which may have a separator, or rules on zeros and signs. A fault in them is that of the text.
-ghost use Rattle.std.specs.Prelude.{◌≡◌, ◌≤◌, IfSome, IsNone, IsTrue, None, Ok, length, take, true};
+ghost use Rattle.std.specs.Prelude.{◌≡◌, ◌≤◌, IfSome, IsNone, IsTrue, None, Ok, length};
 ghost use Rattle.lexical_util.specs.Digit.{digit};
 ghost use Rattle.lexical_util.specs.Number.{HasSign};
 ghost use Rattle.lexical_parse_integer.specs.Answer.{view_of};
-ghost use Rattle.lexical_parse_integer.specs.Plain.{keeps_zero_rule};
 ghost use Rattle.lexical_fixed.specs.Grammar.{complete_fixed, integer_part, is_negative, whole_behind};
 ghost use Rattle.lexical_fixed.specs.Parted.{IsParted, IsToldBefore, point_place};
 ghost use Rattle.lexical_fixed.specs.Validity.{fixed_fault};
@@ -18,10 +17,9 @@ use crate::parted::{places_written, point_place};
 use crate::short::behind_minus;
 use lexical_laws::foreign_bytes;
 use lexical_parse_integer::laws::grammar::complete_by_partial;
-use lexical_parse_integer::quick::complete_valid;
+use lexical_parse_integer::quick::{complete_valid, keeps_zero_rule};
 use lexical_util::digit::char_is_digit;
 use lexical_util::error::Error;
-use lexical_util::format::NumberFormat;
 use lexical_util::num::Integer;
 use lexical_util::result::Result;
 
@@ -92,16 +90,6 @@ fn is_told_before(text: &[u8], format: &FixedFormat, error: Error) -> bool
     }
 }
 
-// Whether the first `count` bytes have no zero in front of another digit, where the format forbids that.
-#[inline(always)]
-fn keeps_zero_rule(bytes: &[u8], format: &NumberFormat, count: usize) -> bool
-    requires some { 1 ≤ count }
-    requires within { count ≤ length bytes.now }
-    ensures { IsTrue result → keeps_zero_rule format.now (take count bytes.now) ≡ true }
-{
-    !format.no_integer_leading_zeros() || count == 1 || bytes[0] != b'0'
-}
-
 // The number of a short text with all places, which are seven at most: of digits alone, or, with one place or two, in groups of
 // three.
 #[inline(always)]
@@ -127,7 +115,7 @@ fn units_by_words<T: Integer>(text: &[u8], format: &FixedFormat, count: usize) -
         return None;
     }
     let place = size - 1 - count;
-    if !keeps_zero_rule(digits, format.integer(), place) {
+    if !keeps_zero_rule(format.integer(), &digits[..place]) {
         return None;
     }
     value_around_point::<T>(digits, format.integer(), place, is_negative)

@@ -14,7 +14,7 @@ use crate::by_point::complete_by_point;
 use crate::format::FixedFormat;
 use crate::fraction::{digits_behind, fraction, has_point_at, read_digits, read_zeros};
 use crate::parted::{value_if_bare, whole_at_once};
-use crate::quick::{front_at_once, plain_part, value_if_short};
+use crate::quick::plain_part;
 use crate::short::is_bare;
 use lexical_parse_integer::parse::ParseInteger;
 use lexical_parse_integer::{number_in_front, options};
@@ -264,38 +264,5 @@ pub fn complete_if_not_short<T: Integer>(text: &[u8], format: &FixedFormat) -> R
     match value_if_bare::<T>(text, format) {
         Some(units) => Ok(units),
         None => read_whole::<T>(text, format),
-    }
-}
-
-// The number of such a text, out of line, so that a short text pays for none of it.
-#[inline(never)]
-fn read_not_short<T: Integer>(text: &[u8], format: &FixedFormat) -> Result<T>
-    requires valid { IsNone (fixed_fault format.now) }
-    ensures { view_of T.number result ≡ complete_fixed format.now T.TYPE text.now }
-{
-    complete_if_not_short::<T>(text, format)
-}
-
-// What the whole text stands for.
-#[inline(always)]
-pub(crate) fn complete<T: Integer>(text: &[u8], format: &FixedFormat) -> Result<T>
-    requires valid { IsNone (fixed_fault format.now) }
-    ensures { view_of T.number result ≡ complete_fixed format.now T.TYPE text.now }
-{
-    match value_if_short::<T>(text, format) {
-        Some(value) => Ok(value),
-        None => read_not_short::<T>(text, format),
-    }
-}
-
-// What the front of the text stands for, and the place at which reading stops.
-#[inline(always)]
-pub(crate) fn partial<T: Integer>(text: &[u8], format: &FixedFormat) -> Result<(T, usize)>
-    requires valid { IsNone (fixed_fault format.now) }
-    ensures { view_of (with_place T.number) result ≡ partial_fixed format.now T.TYPE text.now }
-{
-    match front_at_once::<T>(text, format) {
-        Some(found) => Ok(found),
-        None => partial_if_left::<T>(text, format),
     }
 }

@@ -3,7 +3,7 @@
 ghost use Rattle.std.specs.Prelude.{◌≡◌, ◌+◌, ◌<◌, ◌≤◌, ◌⊎◌, IfSome, IsNone, IsTrue, Ok, length};
 ghost use Rattle.lexical_parse_integer.specs.Plain.{IsBehind};
 ghost use Rattle.lexical_fixed.specs.Grammar.{complete_fixed, is_negative};
-ghost use Rattle.lexical_fixed.specs.Quick.{IsBare, IsFilled, IsFilledWhole, IsLastPoint, IsValueWithout};
+ghost use Rattle.lexical_fixed.specs.Quick.{IsBare, IsFilled, IsFilledWhole, IsLastPoint, IsValueWithout, leads_with_zero};
 ghost use Rattle.lexical_fixed.specs.Validity.{fixed_fault};
 
 use crate::append::append_number;
@@ -11,6 +11,7 @@ use crate::format::FixedFormat;
 use crate::joined::{number_without, numbers_without};
 use lexical_digits::values::{value_of_parts, value_to_8, value_to_16};
 use lexical_parse_integer::laws::grammar::front_digits;
+use lexical_parse_integer::quick::is_decimal;
 use lexical_util::format::NumberFormat;
 use lexical_util::num::Integer;
 
@@ -22,6 +23,17 @@ pub(crate) fn is_bare(format: &NumberFormat) -> bool
     !(format.digit_separator().is_some()
         | format.required_mantissa_sign()
         | format.no_integer_leading_zeros())
+}
+
+// Whether a zero stands in front of another byte than the point, where the integer part's format forbids zeros there.
+#[inline(always)]
+fn leads_with_zero(digits: &[u8], format: &FixedFormat) -> bool
+    ensures { result ≡ leads_with_zero format.now digits.now }
+{
+    if !format.integer().no_integer_leading_zeros() || digits.len() < 2 {
+        return false;
+    }
+    digits[0] == b'0' && digits[1] != format.point()
 }
 
 // The place of the point in `least` to sixteen bytes, if `count` bytes stand behind it, which are
@@ -187,10 +199,13 @@ pub fn value_if_short<T: Integer>(text: &[u8], format: &FixedFormat) -> Option<T
 {
     // The law by which the front has a digit.
     front_digits();
-    if !is_bare(format.integer()) || text.is_empty() {
+    if !is_decimal(format.integer()) || text.is_empty() {
         return None;
     }
     let (is_negative, digits) = behind_minus::<T>(text);
+    if leads_with_zero(digits, format) {
+        return None;
+    }
     let Some(place) = point_before(digits, format, 4, format.places()) else {
         return None;
     };
@@ -256,12 +271,18 @@ pub fn value_at_once<T: Integer>(text: &[u8], format: &FixedFormat) -> Option<T>
 {
     // The law by which the front has a digit.
     front_digits();
-    if !is_bare(format.integer()) || text.is_empty() {
+    if !is_decimal(format.integer()) || text.is_empty() {
         return None;
     }
     let (is_negative, digits) = behind_minus::<T>(text);
+    if leads_with_zero(digits, format) {
+        return None;
+    }
     if let Some(place) = point_before(digits, format, 3, format.places()) {
         return value_by_point::<T>(digits, place, is_negative);
+    }
+    if !is_bare(format.integer()) {
+        return None;
     }
     value_if_fewer::<T>(text, format)
 }

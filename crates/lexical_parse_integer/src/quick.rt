@@ -1,14 +1,14 @@
 //! The parsers in two halves, for crates that stand on this one: columns, tables, and calls from C.
 //!
 //! The first half is the fast path, inlined, and its `None` says nothing about a text. The second half, for what the
-//! first one left, has the answer.
+//! first one left, has the answer. Beside them stand two tests that both make.
 ghost use Rattle.std.specs.Prelude.{◌≡◌};
 ghost use Rattle.lexical_util.specs.Format.{standard};
 ghost use Rattle.lexical_parse_integer.specs.Answer.{view_of};
 ghost use Rattle.lexical_parse_integer.specs.Grammar.{complete};
 
 pub use crate::algorithm::plain::fields::{field_in_front, is_separated};
-pub use crate::algorithm::plain::{front_if_plain, value_if_short};
+pub use crate::algorithm::plain::{front_if_plain, is_decimal, keeps_zero_rule, value_if_short};
 pub use crate::algorithm::whole::{
     complete_if_valid, complete_standard, complete_valid, value_for_format,
 };

@@ -14,7 +14,7 @@ use crate::numbers::Numbers;
 use crate::targets::put_presence;
 use lexical_fields::error_in_text;
 use lexical_fixed::laws::fault_places;
-use lexical_fixed::quick::value_at_once;
+use lexical_fixed::quick::{complete_if_not_short, value_at_once};
 use lexical_fixed::{FixedFormat, ParseFixed};
 use lexical_parse_integer::Error;
 
@@ -31,7 +31,7 @@ pub struct FixedTarget<'a> {
 }
 
 /// Puts the fixed-point number of a cell that starts at a place into a row's place of a slice, in units of the last place, or
-/// returns the cell's fault.
+/// returns the cell's fault. Most are sooner had by [`put_fixed_at_once`], which is best asked first.
 ///
 /// It is for a [`TableColumn`](crate::TableColumn) of one's own. The description has to be valid, and the slice has to have
 /// that place.
@@ -53,7 +53,7 @@ pub fn put_fixed<T: ParseFixed>(
 {
     // The law by which a fault's place is at most the cell's length, so that the sum fits.
     fault_places();
-    match T::parse_fixed(cell, format) {
+    match complete_if_not_short::<T>(cell, format) {
         Ok(value) => {
             values[row] = value;
             None

@@ -25,7 +25,7 @@ use Rattle.lexical_fixed.specs.Validity.{fixed_fault}
 use Rattle.lexical_fixed.specs.declared.error.FixedFormatError.{FixedFormatError}
 use Rattle.lexical_fixed.proofs.Digits.{is_number-below}
 use Rattle.lexical_fixed.proofs.Valid.{is_none}
-use Rattle.lexical_fixed.proofs.ShortNumbers.{minus_is, point_read, stands_there, whole_read}
+use Rattle.lexical_fixed.proofs.ShortNumbers.{minus_is, no_zero_leads, plain_of, point_read, stands_there, whole_read}
 use Rattle.lexical_tables.specs.Amounts.{IsAmount, IsAmountText, IsBehindPoint, without_point}
 use Rattle.lexical_tables.specs.Quotes.{quote}
 use Rattle.lexical_fields.proofs.FieldsInParts.{either}
@@ -200,7 +200,7 @@ module _ (point places : ℕ) (takes : Bool) (digits : List ℕ) (behind number 
             point = stands_there f.point digits place (omega (arith, room)) (at.stands there.0 ∙ sym same_point);
           } in
           point_read f t b (text_of b) digits place behind number (with_sign b number) (with_sign b units) (places - behind)
-          (no_fault (fixed_fault f) valid) bare (law f.integer t (text_of b) (is_none f.integer.digit_separator bare.no_separator))
+          (no_fault (fixed_fault f) valid) (plain_of f (no_fault (fixed_fault f) valid) bare) (no_zero_leads f digits bare) (law f.integer t (text_of b) (is_none f.integer.digit_separator bare.no_separator))
           (behind_sign b signed) (minus_here b signed) last (joined_of (without place digits) there.1) refl written_fits
           (ap (λ n. n - behind) (sym same_places)) (left (sym same_places)) (inr (filled, fits))
 

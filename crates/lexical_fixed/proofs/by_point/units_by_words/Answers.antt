@@ -23,7 +23,7 @@ returns g c =
       some = omega (arith, c.if-count-eq0.false);
       all = c.if-count-places.false ∙ c.places.ensures;
       unasked = ap (λ (f : Format). f.required_mantissa_sign) (sym c.integer.ensures) ∙ sym c.required_mantissa_sign.ensures ∙ c.if-required_mantissa_sign.false;
-      rule = ap (λ (f : Format). keeps_zero_rule f (take (length digits - 1 - c.args.count) digits)) (sym c.integer-2.ensures) ∙ c.keeps_zero_rule.ensures c.if-not-keeps_zero_rule.false;
+      rule = ap (λ (f : Format). keeps_zero_rule f (take (length digits - 1 - c.args.count) digits)) (sym c.integer-2.ensures) ∙ sym c.keeps_zero_rule.ensures ∙ c.if-not-keeps_zero_rule.false;
     })
     c.foreign_bytes.ensures.read c.foreign_bytes.ensures.number c.complete_by_partial.ensures.sentences c.requires.valid c.requires.foreign c.requires.parted
     (subst (λ (f : Format). IfSome c.value_around_point.result (λ v. IsValueAround g.T.Integer.TYPE c.behind_minus-is_negative.result.0 f (length digits - 1 - c.args.count) digits (g.T.Integer.number v))) c.integer-3.ensures c.value_around_point.ensures)

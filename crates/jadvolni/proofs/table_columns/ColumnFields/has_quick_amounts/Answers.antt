@@ -1,7 +1,6 @@
-use Rattle.std.proofs.Common.{◌≡◌, ◌≢◌, ◌∙◌, ap, arith, subst, sym}
+use Rattle.std.proofs.Common.{◌≢◌, ◌∙◌, arith, subst, sym}
 use Rattle.std.proofs.lemmas.Bool.Decides.{nat_tests}
 use Rattle.lexical_tables.specs.Amounts.{IsQuick}
-use Rattle.jadvolni.specs.Fixed.{fixed_of}
 use Rattle.jadvolni.proofs.ColumnAmounts.{amounts_there}
 use Rattle.jadvolni.proofs.table_columns.ColumnFields.has_quick_amounts.Goals as goal
 
@@ -9,7 +8,4 @@ pub returns : goal.returns
 returns c = λ yes.
     let column = c.args.self.now in
     let places : column.description.places ≢ 0 = grind (arith, nat_tests) in
-    let same : c.plain.result ≡ fixed_of column.description = c.plain.ensures
-    ∙ ap (λ integer. record (fixed_of column.description) { integer = integer })
-    (sym (c.has_standard_integer.ensures.integer (grind (arith, nat_tests)))) in
-    amounts_there column _ (sym c.number_type.ensures ∙ c.in-Some.is) places (subst IsQuick same (c.is_quick.ensures yes))
+    amounts_there column _ (sym c.number_type.ensures ∙ c.in-Some.is) places (subst IsQuick c.decimal.ensures (c.is_quick.ensures yes))

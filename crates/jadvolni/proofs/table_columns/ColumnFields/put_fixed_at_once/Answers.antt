@@ -19,12 +19,9 @@ none_is (Some fault) is = absurd cc
 pub put_fixed_at_once-requires : goal.put_fixed_at_once-requires
 put_fixed_at_once-requires c =
     let column = c.args.self.now in
-    let same : c.plain-format.result ≡ fixed_of column.description = c.plain-format.ensures
-    ∙ ap (λ integer. record (fixed_of column.description) { integer = integer })
-    (sym (c.if-not-has_standard_integer.ensures.integer refl)) in
     record {
       numbers = sym c.number_type.ensures ∙ c.in-Some.is;
-      valid = none_is (fixed_fault c.plain-format.result) (ap fixed_fault same
+      valid = none_is (fixed_fault c.decimal-format.result) (ap fixed_fault c.decimal-format.ensures
           ∙ valid_fixed column (c.args.row + 1) _ (sym c.number_type.ensures ∙ c.in-Some.is) c.requires.places c.requires.usable);
       room = room_for column c.args.row c.requires.usable;
       within = c.requires.within;
@@ -33,10 +30,8 @@ put_fixed_at_once-requires c =
 pub returns : goal.returns
 returns c =
     let column = c.args.self.now in
-    let format = c.plain-format.result in
-    let same : format ≡ fixed_of column.description = c.plain-format.ensures
-    ∙ ap (λ integer. record (fixed_of column.description) { integer = integer })
-    (sym (c.if-not-has_standard_integer.ensures.integer refl)) in
+    let format = c.decimal-format.result in
+    let same : format ≡ fixed_of column.description = c.decimal-format.ensures in
     let numbers : keeps_text (target_of column) ≡ false = no_texts_there column _ (sym c.number_type.ensures ∙ c.in-Some.is) in
     let read : (text : FieldView) (type : IntegerType) → view_of Number (fixed_answer format type text)
     ≡ answer_by (reading_of column.description type) text = λ text type. ap (λ it. view_of Number (fixed_answer it type text)) same
