@@ -20,16 +20,30 @@ GHOST = re.compile(
 IMPORT = re.compile(r"(?m)^(?:ghost )?use Rattle\.(\w+)\.specs\.([\w.]+)\.\{([^}]*)\}")
 
 
+Path = tuple[str, ...]
+
+
 class Seen(NamedTuple):
-    """What users of a crate see: its public modules, by path, and names that `pub use` hands on."""
+    """What users of a crate see: its public modules, by path, and which modules hand a name on
+    by `pub use`."""
 
-    modules: set[tuple[str, ...]]
-    handed: set[str]
+    modules: set[Path]
+    handed: dict[str, set[Path]]
 
-    def has(self, module: tuple[str, ...], name: str) -> bool:
+    def is_open(self, module: Path) -> bool:
+        """Whether a module can be named from outside."""
+        return all(module[:count] in self.modules for count in range(len(module) + 1))
+
+    def has(self, module: Path, name: str) -> bool:
         """Whether a name of a module can be named from outside."""
-        is_open = all(module[:count] in self.modules for count in range(len(module) + 1))
-        return is_open or name in self.handed
+        return self.is_open(module) or name in self.handed
+
+    def module(self, module: Path, name: str) -> Path:
+        """The module by which users name it: its own, or the nearest one that hands it on."""
+        if self.is_open(module):
+            return module
+        by = [it for it in self.handed.get(name, ()) if self.is_open(it)]
+        return min(by, key=lambda it: (len(it), it), default=module)
 
 
 class Entry(NamedTuple):
@@ -77,12 +91,13 @@ def undented(text: str) -> str:
 
 def seen_of(sources: dict[str, str]) -> Seen:
     """What users of a crate with these sources see."""
-    seen = Seen({()}, set())
+    seen = Seen({()}, {})
     for file, text in sources.items():
         path = source.module_of(file)
         seen.modules.update(path + (name,) for name in re.findall(r"(?m)^pub mod (\w+)", text))
         for used in re.findall(r"(?m)^pub use ([^;]*);", text):
-            seen.handed.update(re.findall(r"\w+", used))
+            for name in re.findall(r"\w+", used):
+                seen.handed.setdefault(name, set()).add(path)
     return seen
 
 
@@ -98,8 +113,10 @@ def calls_of(file: str, text: str, seen: Seen) -> list[Entry]:
         is_visible = bool(VISIBLE.search(text[line:it.head])) and " for " not in header
         outer = it.owner[0] if it.owner else it.name
         is_public = is_visible or header.startswith("pub trait")
-        if is_public and seen.has(source.module_of(file), outer):
-            found.append(Entry(it.path(), doc_above(text, line), undented(text[line:it.body])))
+        module = source.module_of(file)
+        if is_public and seen.has(module, outer):
+            title = "::".join([*seen.module(module, outer), *it.owner, it.name])
+            found.append(Entry(title, doc_above(text, line), undented(text[line:it.body])))
     return found
 
 
@@ -113,7 +130,7 @@ def promises_of(file: str, text: str, seen: Seen, own_traits: set[str]) -> list[
         if header.startswith("pub trait"):
             name = source.owner_named(header.replace("pub ", "", 1))
             is_told = seen.has(module, name)
-            title = "::".join(["trait " + "::".join(module), name] if module else [f"trait {name}"])
+            title = "trait " + "::".join([*seen.module(module, name), name])
         else:
             bare = re.sub(r"<[^<>]*>", "", header)
             trait = re.findall(r"\w+", bare.partition(" for ")[0])[-1]
@@ -127,13 +144,13 @@ def promises_of(file: str, text: str, seen: Seen, own_traits: set[str]) -> list[
     return found
 
 
-def handed_on(top: str, crate: str) -> set[str]:
-    """The names of a crate that others hand on by `pub use`."""
+def handed_on(top: str, crate: str) -> dict[str, set[Path]]:
+    """The names of a crate that others hand on by `pub use`, whichever of their modules does."""
     crates = os.path.join(top, "crates")
     texts = [text for other in os.listdir(crates)
              for text in source.sources_of(os.path.join(crates, other)).values()]
     used = re.findall(rf"(?m)^pub use {crate}::([^;]*);", "\n".join(texts))
-    return set(re.findall(r"\w+", " ".join(used)))
+    return {name: set() for name in re.findall(r"\w+", " ".join(used))}
 
 
 def comment_above(text: str, at: int) -> str:

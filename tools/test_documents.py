@@ -121,6 +121,14 @@ class OverRepository(unittest.TestCase):
         self.assertEqual(len(faults), 1)
         self.assertTrue(faults[0].startswith(GUIDE))
 
+    def test_names_that_are_handed_on(self) -> None:
+        self.assertNotIn("inner", self.documents()[CONTRACTS])
+        handed = "mod inner;\npub mod outer;\n\n"
+        write(self.top, {
+            "crates/small/src/lib.rt": SOURCE.replace("/// Half", handed + "/// Half", 1),
+            "crates/small/src/outer.rt": "//! Outside.\npub use crate::inner::inner;\n"})
+        self.assertIn("### `outer::inner`", self.documents()[CONTRACTS])
+
     def test_definitions(self) -> None:
         self.assertNotIn("## Definitions", self.documents()[CONTRACTS])
         imports = "ghost use Rattle.small.specs.Halves.{half_of, third_of};\n\n"

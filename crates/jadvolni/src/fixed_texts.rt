@@ -1,12 +1,13 @@
 //! The two calls of every type for fixed-point numbers, which the exports of that type make.
 
-ghost use Rattle.std.specs.Prelude.{◌≡◌, IsTrue, None};
+ghost use Rattle.std.specs.Prelude.{◌≡◌, IsTrue, None, true};
 ghost use Rattle.lexical_fixed.specs.Grammar.{if_fixed};
+ghost use Rattle.lexical_fixed.specs.Validity.{fixed_fault};
 ghost use Rattle.lexical_util.specs.Kind.{kind_of};
 ghost use Rattle.lexical_util.specs.declared.format.kind.FormatKind.TheVariants.{Decimal};
 ghost use Rattle.lexical_parse_integer.specs.Answer.{view_of, with_place};
 ghost use Rattle.jadvolni.specs.Effect.{effect};
-ghost use Rattle.jadvolni.specs.Fixed.{IsPlainFixed, fixed_call, fixed_front_call, fixed_status, front_effect, integer_of, whole_effect};
+ghost use Rattle.jadvolni.specs.Fixed.{IsPlainFixed, fixed_call, fixed_front_call, fixed_known, fixed_of, fixed_status, front_effect, integer_of, whole_effect};
 ghost use Rattle.jadvolni.specs.FormatFields.{are_known};
 
 use crate::calls::UNKNOWN;
@@ -81,6 +82,26 @@ fn fixed_any<T: Integer, S: Slot<T>>(text: &[u8], fields: &FixedFields, value: &
     }
 }
 
+// The whole text, under a valid description whose integer part is decimal, for a text without all places or one that isn't short.
+#[inline(never)]
+fn fixed_decimal_left<T: Integer, S: Slot<T>>(
+    text: &[u8],
+    fields: &FixedFields,
+    value: &mut S,
+) -> Outcome
+    requires kind { kind_of (integer_of fields.now.integer) ≡ Decimal }
+    requires known { fixed_known fields.now ≡ true }
+    requires valid { fixed_fault (fixed_of fields.now) ≡ None }
+    ensures { effect result (S.number value.new)
+        ≡ fixed_call fields.now T.TYPE text.now (S.number value.old) }
+{
+    store(
+        complete_if_not_short::<T>(text, &fields.decimal()),
+        text.len(),
+        value,
+    )
+}
+
 // The whole text, under a description whose integer part is decimal. A short one with all places is read in place.
 #[inline(never)]
 fn fixed_decimal<T: Integer, S: Slot<T>>(
@@ -98,7 +119,7 @@ fn fixed_decimal<T: Integer, S: Slot<T>>(
     }
     match value_if_short::<T>(text, &fields.decimal()) {
         Some(number) => store(Ok(number), text.len(), value),
-        None => fixed_any::<T, S>(text, fields, value),
+        None => fixed_decimal_left::<T, S>(text, fields, value),
     }
 }
 

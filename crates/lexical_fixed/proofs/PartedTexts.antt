@@ -14,7 +14,7 @@ use Rattle.lexical_digits.specs.WrittenNumbers.{StandsFor}
 use Rattle.lexical_digits.proofs.LongNumbers.{sign_of_value}
 use Rattle.lexical_parse_integer.specs.Grammar.{partial}
 use Rattle.lexical_parse_integer.specs.Laws.{TellsDigits}
-use Rattle.lexical_parse_integer.specs.Plain.{BeginsWith, IsBehind}
+use Rattle.lexical_parse_integer.specs.Plain.{BeginsWith, IsBehind, IsPlain}
 use Rattle.lexical_parse_integer.specs.Runs.{are_same}
 use Rattle.lexical_parse_integer.proofs.ForCallers.{begins_read}
 use Rattle.lexical_fixed.specs.Append.{IsAppended}
@@ -22,14 +22,14 @@ use Rattle.lexical_fixed.specs.Fixed.{Fixed}
 use Rattle.lexical_fixed.specs.Fraction.{digits_from, fraction, fraction_length, has_bare_point, has_point_at, lacks_places, read_digits, read_zeros, whole_end}
 use Rattle.lexical_fixed.specs.Grammar.{complete_fixed, integer_part, is_negative, whole_behind, zeros_left}
 use Rattle.lexical_fixed.specs.Parted.{IsParted, IsSummed}
-use Rattle.lexical_fixed.specs.Quick.{IsBare}
+use Rattle.lexical_fixed.specs.Quick.{leads_with_zero}
 use Rattle.lexical_fixed.specs.Validity.{fixed_fault}
 use Rattle.lexical_fixed.proofs.Appended.{appended_read, appended_sign}
 use Rattle.lexical_fixed.proofs.LastFractions.{standing_joined}
 use Rattle.lexical_fixed.proofs.QuickDigits.{prefix_is}
 use Rattle.lexical_fixed.proofs.QuickFronts.{lacks_none}
 use Rattle.lexical_fixed.proofs.QuickParts.{decimal_of, part_by_front}
-use Rattle.lexical_fixed.proofs.ShortNumbers.{behind_drop, behind_get, behind_length, byte_there, ends_with_digit, plain_of, point_no_digit}
+use Rattle.lexical_fixed.proofs.ShortNumbers.{behind_drop, behind_get, behind_length, byte_there, ends_with_digit, point_no_digit, rule_before}
 use Rattle.lexical_fixed.proofs.Units.{by_zeros}
 use Rattle.lexical_fixed.proofs.Valid.{is_none}
 use Rattle.lexical_fixed.proofs.WholeByFront.{no_point_at_end}
@@ -91,30 +91,31 @@ whole_there f t text rest whole written units place count e taken sign r zeros =
     rw (e.ends, inside, e.bare, lacks) (sym (by_zeros f t text whole place (length text) written (f.places - count) (Ok units) read left zeros))
 
 -- the integer part, where digits end before a place
-part_there : (f : Fixed) (t : IntegerType) (b : Bool) (text digits : List ℕ) (whole : ℤ) (place : ℕ) → IsNone (fixed_fault f) → IsBare f.integer
+part_there : (f : Fixed) (t : IntegerType) (b : Bool) (text digits : List ℕ) (whole : ℤ) (place : ℕ) → IsNone (fixed_fault f) → IsPlain f.integer → leads_with_zero f digits ≡ false
     → (IsNone f.integer.digit_separator → IsNone f.integer.base_suffix → TellsDigits f.integer t text)
     → IsBehind b t text digits → 1 ≤ place → place ≤ length digits → (place < length digits → IsNone (digit 10 (get_or digits place 0))) → StandsFor t 10 b (take place digits) whole
     → integer_part f.integer t text ≡ Ok (whole, bool_byte b + place)
-part_there f t b text digits whole place valid bare law behind some within stops stands =
+part_there f t b text digits whole place valid plain lead law behind some within stops stands =
+    let all = (standing_joined t b (take place digits) whole stands).digits in
     let begins : BeginsWith f.integer t b digits whole place = record {
       some = some;
       within = within;
       stops = stops;
-      rule = rw bare.no_rule refl;
+      rule = rule_before f digits place valid lead all;
       stands = stands;
     } in
-    let front : partial f.integer t text ≡ Ok (whole, bool_byte b + place) = begins_read f.integer t b text digits whole place (bool_byte b) (plain_of f valid bare) (decimal_of f valid).radix behind refl begins in
-    part_by_front f t text whole (bool_byte b + place) valid (law (is_none f.integer.digit_separator bare.no_separator)) front (ends_with_digit b t text digits place behind some within (standing_joined t b (take place digits) whole stands).digits)
+    let front : partial f.integer t text ≡ Ok (whole, bool_byte b + place) = begins_read f.integer t b text digits whole place (bool_byte b) plain (decimal_of f valid).radix behind refl begins in
+    part_by_front f t text whole (bool_byte b + place) valid (law (is_none f.integer.digit_separator plain.no_separator)) front (ends_with_digit b t text digits place behind some within all)
 
 -- the whole text
-pub parted_read : (f : Fixed) (t : IntegerType) (b : Bool) (text digits : List ℕ) (count : ℕ) (written units : ℤ) → IsNone (fixed_fault f) → IsBare f.integer
+pub parted_read : (f : Fixed) (t : IntegerType) (b : Bool) (text digits : List ℕ) (count : ℕ) (written units : ℤ) → IsNone (fixed_fault f) → IsPlain f.integer → leads_with_zero f digits ≡ false
     → (IsNone f.integer.digit_separator → IsNone f.integer.base_suffix → TellsDigits f.integer t text)
     → IsBehind b t text digits → b ≡ is_negative t text → IsParted f digits count → IsSummed t b digits count written → Ok units ≡ read_zeros t b written (f.places - count) (length text) → complete_fixed f t text ≡ Ok units
 unfolding complete_fixed
-parted_read f t b text digits zero written units valid bare law behind minus at is zeros =
+parted_read f t b text digits zero written units valid plain lead law behind minus at is zeros =
     let size : ℕ = length digits in
     let end : bool_byte b + size ≡ length text = sym (behind_length b t text digits behind) in
-    let part = part_there f t b text digits is.whole size valid bare law behind at.some (omega arith) (λ less. absurd (omega arith)) is.stands in
+    let part = part_there f t b text digits is.whole size valid plain lead law behind at.some (omega arith) (λ less. absurd (omega arith)) is.stands in
     let none : size - 0 ≡ size = omega arith in
     let rest : drop (length digits - 0) digits ≡ drop (bool_byte b + size) text = ap (λ k. drop k digits) none ∙ sym (behind_drop b t text digits size behind) in
     let sign : HasSign b is.whole = sign_of_value t 10 b _ is.whole is.stands in
@@ -122,7 +123,7 @@ parted_read f t b text digits zero written units valid bare law behind minus at 
     (subst (λ (m : Bool). HasSign m is.whole) minus sign) (subst (λ (m : Bool). IsAppended t m is.whole (drop (length digits - 0) digits) written) minus is.appended)
     (zeros ∙ ap (λ (m : Bool). read_zeros t m written (f.places - 0) (length text)) minus) in
     rw part there
-parted_read f t b text digits (suc n) written units valid bare law behind minus at is zeros =
+parted_read f t b text digits (suc n) written units valid plain lead law behind minus at is zeros =
     let count : ℕ = suc n in
     let size : ℕ = length digits in
     let place : ℕ = size - 1 - count in
@@ -132,7 +133,7 @@ parted_read f t b text digits (suc n) written units valid bare law behind minus 
     let stops : IsNone (digit 10 (get_or digits place 0)) = ap (λ byte. is_some (digit 10 byte)) (byte_there f.point digits place point) ∙ point_no_digit f valid in
     let none : (suc n == 0) ≡ false = grind (arith, nat_tests) in
     let stands : StandsFor t 10 b (take place digits) is.whole = rw none at is.stands in
-    let part = part_there f t b text digits is.whole place valid bare law behind (omega arith) (omega arith) (λ less. stops) stands in
+    let part = part_there f t b text digits is.whole place valid plain lead law behind (omega arith) (omega arith) (λ less. stops) stands in
     let there : are_same (Some f.point) (slice_get text (start + place)) ≡ true = ap (are_same (Some f.point)) (behind_get b t text digits place behind) ∙ point in
     let next : start + place + 1 ≡ start + (size - count) = omega arith in
     let rest : drop (size - count) digits ≡ drop (start + place + 1) text = sym (ap (λ k. drop k text) next ∙ behind_drop b t text digits (size - count) behind) in

@@ -91,6 +91,11 @@ unfolding is_negative are_same
 minus_is t [] some = absurd (omega arith)
 minus_is t (c ∷ cs) some = refl
 
+-- what stands behind it is known
+pub behind_same : (b : Bool) (t : IntegerType) (text digits others : List ℕ) → IsBehind b t text digits → IsBehind b t text others → digits ≡ others
+behind_same false t text digits others one two = sym one ∙ two
+behind_same true t text digits others one two = ap (drop 1) (sym one.0 ∙ two.0)
+
 -- ---- the digits
 
 -- digits joined are digits apart
@@ -144,7 +149,7 @@ pub no_zero_leads : (f : Fixed) (digits : List ℕ) → IsBare f.integer → lea
 no_zero_leads f digits bare = rw bare.no_rule refl
 
 -- digits before the point keep the rule on zeros, where no zero leads
-rule_before : (f : Fixed) (digits : List ℕ) (place : ℕ) → IsNone (fixed_fault f) → leads_with_zero f digits ≡ false → AreDigits 10 (take place digits) → keeps_zero_rule f.integer (take place digits) ≡ true
+pub rule_before : (f : Fixed) (digits : List ℕ) (place : ℕ) → IsNone (fixed_fault f) → leads_with_zero f digits ≡ false → AreDigits 10 (take place digits) → keeps_zero_rule f.integer (take place digits) ≡ true
 rule_before f digits place valid lead all = by_rule f.integer.no_integer_leading_zeros refl
   where
     first_two : (d e : ℕ) (rest : List ℕ) (n : ℕ) (is_zero is_point : Bool) → (d == 48) ≡ is_zero → (e == f.point) ≡ is_point → f.integer.no_integer_leading_zeros ≡ true
@@ -225,11 +230,11 @@ short_found number_of f t b text digits place (Some v) valid plain lead law behi
     (omega arith) (inl (omega arith)) (inl (refl, refl))
 
 -- and one with zeros for places that lack
-pub filled_read : (f : Fixed) (t : IntegerType) (b : Bool) (text digits : List ℕ) (units : ℤ) → IsNone (fixed_fault f) → IsBare f.integer
+pub filled_read : (f : Fixed) (t : IntegerType) (b : Bool) (text digits : List ℕ) (units : ℤ) → IsNone (fixed_fault f) → IsPlain f.integer → leads_with_zero f digits ≡ false
     → (IsNone f.integer.digit_separator → IsNone f.integer.base_suffix → TellsDigits f.integer t text)
     → IsBehind b t text digits → b ≡ is_negative t text → IsFilled f t b digits units → complete_fixed f t text ≡ Ok units
-filled_read f t b text digits units valid bare law behind minus it =
-    point_read f t b text digits it.place it.count it.digits.number it.written units (f.places - it.count) valid (plain_of f valid bare) (no_zero_leads f digits bare) (law (is_none f.integer.digit_separator bare.no_separator)) behind minus it.point it.digits.joined it.digits.worth it.digits.fits
+filled_read f t b text digits units valid plain lead law behind minus it =
+    point_read f t b text digits it.place it.count it.digits.number it.written units (f.places - it.count) valid plain lead (law (is_none f.integer.digit_separator plain.no_separator)) behind minus it.point it.digits.joined it.digits.worth it.digits.fits
     refl (inr it.takes) (inr (it.filled, it.fits))
 
 -- a value that was found, with zeros for places that lack
@@ -246,10 +251,10 @@ filled_found number_of f t b digits place count written (Some v) takes at is fil
 digits_stand : (t : IntegerType) (b : Bool) (bytes : List ℕ) (value : ℤ) → StandsFor t 10 b bytes value → AreDigits 10 bytes
 digits_stand t b bytes value s = (standing_joined t b bytes value s).digits
 
-pub whole_read : (f : Fixed) (t : IntegerType) (b : Bool) (text digits : List ℕ) (units : ℤ) → IsNone (fixed_fault f) → IsBare f.integer
+pub whole_read : (f : Fixed) (t : IntegerType) (b : Bool) (text digits : List ℕ) (units : ℤ) → IsNone (fixed_fault f) → IsPlain f.integer → leads_with_zero f digits ≡ false
     → (IsNone f.integer.digit_separator → IsNone f.integer.base_suffix → TellsDigits f.integer t text)
     → IsBehind b t text digits → b ≡ is_negative t text → IsFilledWhole f t b digits units → complete_fixed f t text ≡ Ok units
-whole_read f t b text digits units valid bare law behind minus it =
+whole_read f t b text digits units valid plain lead law behind minus it =
     let start : ℕ = bool_byte b in
     let size : ℕ = length digits in
     let v : ℤ = it.written in
@@ -259,11 +264,11 @@ whole_read f t b text digits units valid bare law behind minus it =
       some = it.some;
       within = omega arith;
       stops = λ less. absurd (omega arith);
-      rule = rw bare.no_rule refl;
+      rule = rule_before f digits size valid lead (digits_stand t b (take size digits) v here);
       stands = here;
     } in
-    let front : partial f.integer t text ≡ Ok (v, start + size) = begins_read f.integer t b text digits v size start (plain_of f valid bare) (decimal_of f valid).radix behind refl begins in
-    let part = part_by_front f t text v (start + size) valid (law (is_none f.integer.digit_separator bare.no_separator)) front (ends_with_digit b t text digits size behind it.some (omega arith) (digits_stand t b (take size digits) v here)) in
+    let front : partial f.integer t text ≡ Ok (v, start + size) = begins_read f.integer t b text digits v size start plain (decimal_of f valid).radix behind refl begins in
+    let part = part_by_front f t text v (start + size) valid (law (is_none f.integer.digit_separator plain.no_separator)) front (ends_with_digit b t text digits size behind it.some (omega arith) (digits_stand t b (take size digits) v here)) in
     let end : start + size ≡ length text = sym (behind_length b t text digits behind) in
     let fraction : IsFraction f text (start + size) 0 0 = none_at_end f text (start + size) end in
     let sign : HasSign b v = sign_of_value t 10 b digits v it.stands in
@@ -275,11 +280,11 @@ whole_read f t b text digits units valid bare law behind minus it =
     complete_by_front f t text units (partial_by_part f t text v (start + size) part ∙ joined_front ∙ ap (λ k. Ok (units, k)) (ends_at_end f text (start + size) end))
 
 -- either is the number of the text
-pub fewer_read : (f : Fixed) (t : IntegerType) (b : Bool) (text digits : List ℕ) (units : ℤ) → IsNone (fixed_fault f) → IsBare f.integer
+pub fewer_read : (f : Fixed) (t : IntegerType) (b : Bool) (text digits : List ℕ) (units : ℤ) → IsNone (fixed_fault f) → IsPlain f.integer → leads_with_zero f digits ≡ false
     → (IsNone f.integer.digit_separator → IsNone f.integer.base_suffix → TellsDigits f.integer t text)
     → IsBehind b t text digits → b ≡ is_negative t text → IsFilled f t b digits units ⊎ IsFilledWhole f t b digits units → complete_fixed f t text ≡ Ok units
-fewer_read f t b text digits units valid bare law behind minus (inl it) = filled_read f t b text digits units valid bare law behind minus it
-fewer_read f t b text digits units valid bare law behind minus (inr it) = whole_read f t b text digits units valid bare law behind minus it
+fewer_read f t b text digits units valid plain lead law behind minus (inl it) = filled_read f t b text digits units valid plain lead law behind minus it
+fewer_read f t b text digits units valid plain lead law behind minus (inr it) = whole_read f t b text digits units valid plain lead law behind minus it
 
 -- ---- three bytes
 

@@ -13,10 +13,10 @@ ghost use Rattle.lexical_fixed.specs.Validity.{fixed_fault};
 use crate::by_point::complete_by_point;
 use crate::format::FixedFormat;
 use crate::fraction::{digits_behind, fraction, has_point_at, read_digits, read_zeros};
-use crate::parted::{value_if_bare, whole_at_once};
+use crate::parted::{value_if_decimal, whole_at_once};
 use crate::quick::plain_part;
-use crate::short::is_bare;
 use lexical_parse_integer::parse::ParseInteger;
+use lexical_parse_integer::quick::is_decimal;
 use lexical_parse_integer::{number_in_front, options};
 use lexical_util::error::Error;
 use lexical_util::format::NumberFormat;
@@ -258,11 +258,10 @@ pub fn complete_if_not_short<T: Integer>(text: &[u8], format: &FixedFormat) -> R
     requires valid { IsNone (fixed_fault format.now) }
     ensures { view_of T.number result ≡ complete_fixed format.now T.TYPE text.now }
 {
-    if !is_bare(format.integer()) {
-        return complete_by_point::<T>(text, format);
+    if is_decimal(format.integer()) {
+        if let Some(units) = value_if_decimal::<T>(text, format) {
+            return Ok(units);
+        }
     }
-    match value_if_bare::<T>(text, format) {
-        Some(units) => Ok(units),
-        None => read_whole::<T>(text, format),
-    }
+    complete_by_point::<T>(text, format)
 }

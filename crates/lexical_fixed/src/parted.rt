@@ -1,15 +1,16 @@
 // Whole texts of any length at once: digits around a point, with all places behind it or fewer where the description takes
 // that, or digits alone. `None` says nothing of the text.
-ghost use Rattle.std.specs.Prelude.{◌≡◌, ◌+◌, ◌≤◌, IfSome, IsNone, IsTrue, Ok, length};
-ghost use Rattle.lexical_fixed.specs.Grammar.{complete_fixed};
+ghost use Rattle.std.specs.Prelude.{◌≡◌, ◌+◌, ◌≤◌, ℕ, List, IfSome, IsNone, IsTrue, Ok, false, length};
+ghost use Rattle.lexical_parse_integer.specs.Plain.{IsBehind, IsPlain};
+ghost use Rattle.lexical_fixed.specs.Grammar.{complete_fixed, is_negative};
 ghost use Rattle.lexical_fixed.specs.Parted.{IsParted, IsSummed, point_place};
-ghost use Rattle.lexical_fixed.specs.Quick.{IsBare};
+ghost use Rattle.lexical_fixed.specs.Quick.{leads_with_zero};
 ghost use Rattle.lexical_fixed.specs.Validity.{fixed_fault};
 
 use crate::append::append_digits;
 use crate::format::FixedFormat;
 use crate::fraction::read_zeros;
-use crate::short::{behind_minus, value_if_fewer};
+use crate::short::{behind_minus, leads_with_zero, value_of_fewer};
 use lexical_digits::fronts::value_of_digits;
 use lexical_parse_integer::laws::grammar::front_digits;
 use lexical_util::num::Integer;
@@ -77,7 +78,10 @@ fn value_as_written<T: Integer>(digits: &[u8], count: usize, is_negative: bool) 
 #[inline(always)]
 pub(crate) fn whole_at_once<T: Integer>(text: &[u8], format: &FixedFormat) -> Option<T>
     requires valid { IsNone (fixed_fault format.now) }
-    requires bare { IsBare format.now.integer }
+    requires plain { IsPlain format.now.integer }
+    requires zeros { (digits : List ℕ)
+        → IsBehind (is_negative T.TYPE text.now) T.TYPE text.now digits
+        → leads_with_zero format.now digits ≡ false }
     ensures { IfSome result
         (λ units. complete_fixed format.now T.TYPE text.now ≡ Ok (T.number units)) }
 {
@@ -102,13 +106,22 @@ pub(crate) fn whole_at_once<T: Integer>(text: &[u8], format: &FixedFormat) -> Op
 
 // The number that the whole text stands for, with all places or fewer. Out of line, so that its callers stay small.
 #[inline(never)]
-pub(crate) fn value_if_bare<T: Integer>(text: &[u8], format: &FixedFormat) -> Option<T>
+pub(crate) fn value_if_decimal<T: Integer>(text: &[u8], format: &FixedFormat) -> Option<T>
     requires valid { IsNone (fixed_fault format.now) }
-    requires bare { IsBare format.now.integer }
+    requires plain { IsPlain format.now.integer }
     ensures { IfSome result
         (λ units. complete_fixed format.now T.TYPE text.now ≡ Ok (T.number units)) }
 {
-    match value_if_fewer::<T>(text, format) {
+    // The law by which the front has a digit.
+    front_digits();
+    if text.is_empty() {
+        return None;
+    }
+    let (is_negative, digits) = behind_minus::<T>(text);
+    if leads_with_zero(digits, format) {
+        return None;
+    }
+    match value_of_fewer::<T>(digits, format, is_negative) {
         Some(units) => Some(units),
         None => whole_at_once::<T>(text, format),
     }

@@ -27,7 +27,7 @@ pub(crate) fn is_bare(format: &NumberFormat) -> bool
 
 // Whether a zero stands in front of another byte than the point, where the integer part's format forbids zeros there.
 #[inline(always)]
-fn leads_with_zero(digits: &[u8], format: &FixedFormat) -> bool
+pub(crate) fn leads_with_zero(digits: &[u8], format: &FixedFormat) -> bool
     ensures { result ≡ leads_with_zero format.now digits.now }
 {
     if !format.integer().no_integer_leading_zeros() || digits.len() < 2 {
@@ -159,7 +159,11 @@ fn value_by_point<T: Integer>(digits: &[u8], place: usize, is_negative: bool) ->
 // The number in units of digits with fewer behind the point than there are places, or without a point, if the description takes
 // that.
 #[inline(always)]
-fn value_of_fewer<T: Integer>(digits: &[u8], format: &FixedFormat, is_negative: bool) -> Option<T>
+pub(crate) fn value_of_fewer<T: Integer>(
+    digits: &[u8],
+    format: &FixedFormat,
+    is_negative: bool,
+) -> Option<T>
     requires minus { IsTrue is_negative → IsTrue T.TYPE.is_signed }
     ensures { IfSome result
         (λ value. IsFilled format.now T.TYPE is_negative digits.now (T.number value)
@@ -281,8 +285,5 @@ pub fn value_at_once<T: Integer>(text: &[u8], format: &FixedFormat) -> Option<T>
     if let Some(place) = point_before(digits, format, 3, format.places()) {
         return value_by_point::<T>(digits, place, is_negative);
     }
-    if !is_bare(format.integer()) {
-        return None;
-    }
-    value_if_fewer::<T>(text, format)
+    value_of_fewer::<T>(digits, format, is_negative)
 }

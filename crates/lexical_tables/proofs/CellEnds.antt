@@ -5,7 +5,6 @@ use Rattle.std.specs.Int.{bit_at}
 use Rattle.std.proofs.lemmas.Bool.{cases_lt, eqb-false, eqb-true, ne_eqb}
 use Rattle.std.proofs.lemmas.Nat.{pow-add}
 use Rattle.std.proofs.lemmas.Nat.Bits.{bit_at-zero, bit_at_above}
-use Rattle.std.proofs.Math.Nat.{pow-suc}
 use native.Mathlib.Nat.{div-div-eq-div-mul}
 use Rattle.lexical_fields.specs.Fields.{field_length}
 use Rattle.lexical_fields.proofs.FieldEnds.{field_is}
@@ -125,16 +124,14 @@ end_by q s text apart k low =
     by_within false x = refl
 
 -- the bits of a number that is shifted
-shifted_bit : (m r k : ℕ) → bit_at (m / 2 ^ r / 2) k ≡ bit_at m (r + 1 + k)
-shifted_bit m r k =
-    let one : r + 1 + k ≡ suc (r + k) = omega arith in
-    let power : 2 ^ r * 2 * 2 ^ k ≡ 2 ^ (r + 1 + k) =
-    omega (arith, pow-add 2 r k, pow-suc 2 (r + k), ap (λ n. 2 ^ n) one, turn (2 ^ r) (2 ^ k)) in
-    ap (λ n. n % 2) (ap (λ n. n / 2 ^ k) (div-div-eq-div-mul m (2 ^ r) 2)
-    ∙ div-div-eq-div-mul m (2 ^ r * 2) (2 ^ k) ∙ ap (λ n. m / n) power)
-  where
-    turn : (a b : ℕ) → a * 2 * b ≡ a * b * 2
-    turn a b = grind arith
+shifted_bit : (m r k : ℕ) → bit_at (m / 2 ^ r) k ≡ bit_at m (r + k)
+shifted_bit m r k = ap (λ n. n % 2) (div-div-eq-div-mul m (2 ^ r) (2 ^ k) ∙ ap (λ n. m / n) (sym (pow-add 2 r k)))
+
+-- two shifts are one
+pub shifted_twice : (m r : ℕ) → m / 2 ^ r / 2 ≡ m / 2 ^ (r + 1)
+shifted_twice m r =
+    let power : 2 ^ r * 2 ≡ 2 ^ (r + 1) = sym (pow-add 2 r 1) in
+    div-div-eq-div-mul m (2 ^ r) 2 ∙ ap (λ n. m / n) power
 
 -- ---- the first end
 
@@ -241,27 +238,27 @@ module _ (q : Bool) (s : ℕ) (text : List ℕ) (r : ℕ) (apart : q ≡ true �
 
 -- ---- the lowest mark of a look
 
--- Of the `seen` bytes of a text from a place on, a bit of m marks each at which a cell ends, and no
+-- Of the `seen` bytes of a text from a place on, at most so many, a bit of m marks each at which a cell ends, and no
 -- other bit is set.
-pub record AreEndsFrom (q : Bool) (s : ℕ) (text : List ℕ) (place m : ℕ) : Type 0 where
+pub record AreEndsFrom (q : Bool) (s : ℕ) (text : List ℕ) (most place m : ℕ) : Type 0 where
   pub seen : ℕ
-  pub few : seen ≤ 64
+  pub few : seen ≤ most
   pub room : 0 < seen → place + seen + 16 ≤ length text
   pub here : (k : ℕ) → k < seen → bit_at m k ≡ cond (is_end q s text (place + k)) 1 0
   pub beyond : (k : ℕ) → seen ≤ k → bit_at m k ≡ 0
 
 -- What the lowest mark tells, if no cell ends before the place: where the first one ends, and the ends behind that.
-pub record LowestEnd (q : Bool) (s : ℕ) (text : List ℕ) (m r end : ℕ) : Type 0 where
-  pub few : r < 64
+pub record LowestEnd (q : Bool) (s : ℕ) (text : List ℕ) (most m r end : ℕ) : Type 0 where
+  pub few : r < most
   pub first : IsFirstEnd q s text end
-  pub ends : AreEnds q s (drop (end + 1) text) (m / 2 ^ r / 2)
+  pub ends : AreEnds q s (drop (end + 1) text) (m / 2 ^ (r + 1))
 
-pub lowest_end : (q : Bool) (s : ℕ) (text : List ℕ) (place m r : ℕ) → (q ≡ true → s ≢ quote)
-    → AreEndsFrom q s text place m → ((k : ℕ) → k < place → is_end q s text k ≡ false)
-    → bit_at m r ≡ 1 → ((k : ℕ) → k < r → bit_at m k ≡ 0) → LowestEnd q s text m r (place + r)
-lowest_end q s text place m r apart a none set below = by_order (cases_lt r a.seen)
+pub lowest_end : (q : Bool) (s : ℕ) (text : List ℕ) (most place m r : ℕ) → most ≤ 64 → (q ≡ true → s ≢ quote)
+    → AreEndsFrom q s text most place m → ((k : ℕ) → k < place → is_end q s text k ≡ false)
+    → bit_at m r ≡ 1 → ((k : ℕ) → k < r → bit_at m k ≡ 0) → LowestEnd q s text most m r (place + r)
+lowest_end q s text most place m r fits apart a none set below = by_order (cases_lt r a.seen)
   where
-    by_order : (r < a.seen) ⊎ (a.seen ≤ r) → LowestEnd q s text m r (place + r)
+    by_order : (r < a.seen) ⊎ (a.seen ≤ r) → LowestEnd q s text most m r (place + r)
     by_order (inr high) = let wrong : 0 ≡ 1 = sym (a.beyond r high) ∙ set in absurd (omega (arith, wrong))
     by_order (inl low) =
         let least = a.few in
@@ -273,14 +270,14 @@ lowest_end q s text place m r apart a none set below = by_order (cases_lt r a.se
           first = end_is q s text (place + r) apart room no_end here;
           ends = record {
             seen = a.seen - (r + 1);
-            few = omega (arith, least);
+            few = omega (arith, least, fits);
             room = λ some. omega (arith, some, all, length-drop (place + r + 1) text);
             here = λ k less.
                 let at : place + (r + 1 + k) ≡ place + r + 1 + k = omega arith in
-                shifted_bit m r k ∙ a.here (r + 1 + k) (omega (arith, less))
+                shifted_bit m (r + 1) k ∙ a.here (r + 1 + k) (omega (arith, less))
                 ∙ ap (λ i. cond {A = ℕ} (is_end q s text i) 1 0) at
                 ∙ ap (λ t. cond {A = ℕ} t 1 0) (end_behind q s text (place + r) apart room no_end here k);
-            beyond = λ k more. shifted_bit m r k ∙ a.beyond (r + 1 + k) (omega (arith, more));
+            beyond = λ k more. shifted_bit m (r + 1) k ∙ a.beyond (r + 1 + k) (omega (arith, more));
           };
         }
       where
@@ -297,10 +294,10 @@ lowest_end q s text place m r apart a none set below = by_order (cases_lt r a.se
 
 -- of the marks in front of a text
 pub first_end : (q : Bool) (s : ℕ) (text : List ℕ) (m r : ℕ) → AreEnds q s text m → (q ≡ true → s ≢ quote)
-    → bit_at m r ≡ 1 → ((k : ℕ) → k < r → bit_at m k ≡ 0) → LowestEnd q s text m r r
+    → bit_at m r ≡ 1 → ((k : ℕ) → k < r → bit_at m k ≡ 0) → LowestEnd q s text 63 m r r
 first_end q s text m r a apart set below =
     let at : 0 + r ≡ r = omega arith in
-    subst (LowestEnd q s text m r) at (lowest_end q s text 0 m r apart (record {
+    subst (LowestEnd q s text 63 m r) at (lowest_end q s text 63 0 m r (omega arith) apart (record {
       seen = a.seen;
       few = a.few;
       room = λ some. omega (arith, a.room some);
@@ -314,9 +311,9 @@ first_end q s text m r a apart set below =
 pub far_end : (q : Bool) (s : ℕ) (text : List ℕ) (place m r : ℕ) → (q ≡ true → s ≢ quote) → place + 80 ≤ length text
     → m < 2 ^ 64 → ((k : ℕ) → k < 64 → bit_at m k ≡ cond (is_end q s text (place + k)) 1 0)
     → ((k : ℕ) → k < place → is_end q s text k ≡ false) → bit_at m r ≡ 1 → ((k : ℕ) → k < r → bit_at m k ≡ 0)
-    → LowestEnd q s text m r (place + r)
+    → LowestEnd q s text 64 m r (place + r)
 far_end q s text place m r apart long fits here none set below =
-    lowest_end q s text place m r apart (record {
+    lowest_end q s text 64 place m r (omega arith) apart (record {
       seen = 64;
       few = omega arith;
       room = λ some. omega (arith, long);

@@ -11,10 +11,10 @@ is_end has_quotes separator bytes place =
     || (slice_index (seen has_quotes line_feed bytes) place == line_feed)
 
 -- Bit k is set exactly if a cell ends at byte k, among the first bytes, which `seen` counts; all other bits are 0. Sixteen
--- more bytes follow these.
+-- more bytes follow these. Bit 63 is 0, so that one shift passes any end.
 pub record AreEnds (has_quotes : Bool) (separator : ℕ) (bytes : List ℕ) (marks : ℕ) : Type 0 where
   pub seen : ℕ
-  pub few : seen ≤ 64
+  pub few : seen ≤ 63
   pub room : 0 < seen → seen + 16 ≤ length bytes
   pub here : (k : ℕ) → k < seen
       → bit_at marks k ≡ (if is_end has_quotes separator bytes k then 1 else 0)

@@ -1,6 +1,6 @@
 //! Amounts that are read at once: digits around a point whose place is known by how many digits stand behind it.
 
-ghost use Rattle.std.specs.Prelude.{◌≡◌, ◌+◌, ◌-◌, ◌*◌, ◌<◌, ◌≤◌, ◌^◌, ◌++◌, ◌∷◌, [], IfSome, IsTrue, length, slice_index, take};
+ghost use Rattle.std.specs.Prelude.{◌≡◌, ◌+◌, ◌-◌, ◌*◌, ◌<◌, ◌≤◌, ◌^◌, ◌++◌, ◌∷◌, [], IfSome, IsTrue, length, slice_index, take, true};
 ghost use Rattle.lexical_digits.specs.WrittenNumbers.{WritesDecimal};
 ghost use Rattle.lexical_fixed.specs.Quick.{without};
 ghost use Rattle.lexical_tables.specs.Amounts.{IsAmount, IsBehindPoint, IsQuick, without_point};
@@ -96,34 +96,22 @@ fn stands_before(text: &[u8], count: usize, point: u8, behind: usize) -> bool
     count >= behind + 2 && text[count - 1 - behind] == point
 }
 
-// How many of a text's first `count` bytes stand behind the point: `places`, or if `takes_fewer`,
-// fewer, or 0 where no point is found. Without `takes_fewer`, `None` where it isn't in front of the
-// last `places`.
+// How many of a text's first `count` bytes stand behind the point, if fewer than `places` may: 0 where no point is found.
 #[inline(always)]
-fn count_behind(
-    text: &[u8],
-    count: usize,
-    point: u8,
-    places: usize,
-    takes_fewer: bool,
-) -> Option<usize>
+fn count_behind(text: &[u8], count: usize, point: u8, places: usize) -> usize
     requires within { count ≤ length text.now }
     requires some { 1 ≤ places }
     requires few { places ≤ 6 }
-    ensures { IfSome result
-        (λ behind. IsBehindPoint point places takes_fewer (take count text.now) behind) }
+    ensures { IsBehindPoint point places true (take count text.now) result }
 {
-    let mut behind = places;
+    let mut behind = places - 1;
     while behind > 0 {
         if stands_before(text, count, point, behind) {
-            return Some(behind);
-        }
-        if !takes_fewer {
-            return None;
+            return behind;
         }
         behind -= 1;
     }
-    Some(0)
+    0
 }
 
 /// The units of the last place that a text's first `size` bytes stand for, and whether a minus
@@ -156,7 +144,14 @@ pub fn units_of_front(
     if count.wrapping_sub(1) > 12 {
         return None;
     }
-    let behind = count_behind(digits, count, point, places, takes_fewer)?;
+    if stands_before(digits, count, point, places) {
+        let number = number_written(digits, count, places)?;
+        return Some((is_negative, number));
+    }
+    if !takes_fewer {
+        return None;
+    }
+    let behind = count_behind(digits, count, point, places);
     let number = number_written(digits, count, behind)?;
     Some((is_negative, number * power_of_ten(places - behind)))
 }

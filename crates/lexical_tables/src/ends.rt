@@ -148,7 +148,7 @@ fn ends_near_end(text: &[u8], separator: u8, has_quotes: bool) -> u64
     look.ends & ((1 << seen) - 1)
 }
 
-// The ends of cells among the first bytes of a text, a bit for each.
+// The ends of cells among the first bytes of a text, a bit for each of up to 63.
 #[inline(always)]
 fn ends_in_front(text: &[u8], separator: u8, has_quotes: bool) -> u64
     requires quoted { has_quotes ≡ true → separator ≢ quote }
@@ -157,10 +157,10 @@ fn ends_in_front(text: &[u8], separator: u8, has_quotes: bool) -> u64
     if text.len() < LEAST_MARKED {
         return ends_near_end(text, separator, has_quotes);
     }
-    look_at_64(text, 0, separator, has_quotes, false).ends
+    look_at_64(text, 0, separator, has_quotes, false).ends & ((1 << 63) - 1)
 }
 
-// The remaining marks, or, if there is none, those of the next 64 bytes. The text begins at a cell's start, so outside quotes.
+// The remaining marks, or, if there is none, those of the next 63 bytes. The text begins at a cell's start, so outside quotes.
 #[inline(always)]
 pub(crate) fn next_ends(text: &[u8], marks: u64, separator: u8, has_quotes: bool) -> u64
     requires marks { AreEnds has_quotes separator text.now marks }
@@ -181,21 +181,12 @@ pub(crate) fn first_end(text: &[u8], marks: u64, separator: u8, has_quotes: bool
     requires some { marks ≢ 0 }
     requires marks { AreEnds has_quotes separator text.now marks }
     requires quoted { has_quotes ≡ true → separator ≢ quote }
-    ensures few { result < 64 }
+    ensures few { result < 63 }
     ensures end { IsFirstEnd has_quotes separator text.now result }
     ensures left { AreEnds has_quotes separator (drop (result + 1) text.now)
-        (marks / 2 ^ result / 2) }
+        (marks / 2 ^ (result + 1)) }
 {
     lowest_mark(marks)
-}
-
-// The marks of what stands behind an end that has `size` bytes before it.
-#[inline(always)]
-pub(crate) fn behind_end(marks: u64, size: usize) -> u64
-    requires { size < 64 }
-    ensures { result ≡ marks / 2 ^ size / 2 }
-{
-    marks >> size >> 1
 }
 
 // Where a text's first cell ends, and the marks of the ends behind that.
@@ -222,7 +213,7 @@ pub(crate) fn far_end(text: &[u8], separator: u8, has_quotes: bool) -> Option<Fa
             let size = lowest_mark(look.ends);
             return Some(FarEnd {
                 end: place + size,
-                marks: behind_end(look.ends, size),
+                marks: look.ends >> size >> 1,
             });
         }
         is_within = look.is_within;

@@ -116,7 +116,7 @@ pub(crate) fn read_next_cell<'a, C: TableColumn>(
         return not_done(found.behind, count);
     }
     end_row(
-        start, text, left.text, found.part, count, index, columns, separator, dialect, wrong,
+        start, text, left.text, found.part, column, index, columns, separator, dialect, wrong,
     );
     done(found.behind, count)
 }

@@ -153,8 +153,7 @@ fn read_cells_at_once<'a, C: TableColumn, const HAS_QUOTES: bool, const HAS_CALL
             return stopped_at(index, start, column, left, false);
         }
         let part = next_part(&text[start..], left.text, marks, separator, dialect);
-        let count = column + 1;
-        if ends_wrong(left.text, part, count, columns, dialect) {
+        if ends_wrong(left.text, part, column, columns, dialect) {
             return stopped_at(index, start, column, left, false);
         }
         let place = text.len() - left.text.len();
@@ -163,7 +162,7 @@ fn read_cells_at_once<'a, C: TableColumn, const HAS_QUOTES: bool, const HAS_CALL
         ) {
             return stopped_at(index, start, column, left, false);
         }
-        column = count;
+        column += 1;
         left = behind_part(left, part.end);
         if part.is_last {
             if index == last || left.text.is_empty() {

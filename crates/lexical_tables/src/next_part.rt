@@ -6,7 +6,7 @@ ghost use Rattle.lexical_tables.specs.RowSoFar.{IsBehind, IsMarked, IsOnRow, IsP
 ghost use Rattle.lexical_tables.specs.Rows.{carriage_return, line_feed};
 
 use crate::dialect::Dialect;
-use crate::ends::{behind_end, far_end, first_end};
+use crate::ends::{far_end, first_end};
 
 // What is left of a text, and the marks of where its first cells end.
 #[derive(Copy, Clone)]
@@ -34,13 +34,14 @@ pub(crate) struct Found<'a> {
 #[inline(always)]
 pub(crate) fn behind_part(left: Left<'_>, end: usize) -> Left<'_>
     requires within { end < length left.text.now }
-    requires few { end < 64 }
+    requires few { end < 63 }
     ensures text { result.text.now ≡ drop (end + 1) left.entry.text.now }
-    ensures marks { result.marks ≡ left.entry.marks / 2 ^ end / 2 }
+    ensures marks { result.marks ≡ left.entry.marks / 2 ^ (end + 1) }
 {
+    let size = end + 1;
     Left {
-        text: &left.text[end + 1..],
-        marks: behind_end(left.marks, end),
+        text: &left.text[size..],
+        marks: left.marks >> size,
     }
 }
 
@@ -117,9 +118,9 @@ pub(crate) fn next_part(
     requires here { IsOnRow dialect.now separator text.now left.now }
     requires marked { IsMarked dialect.now separator }
     ensures part { IsPart dialect.now separator text.now left.now result }
-    ensures few { result.end < 64 }
+    ensures few { result.end < 63 }
     ensures ends { AreEnds dialect.now.has_quotes separator (drop (result.end + 1) left.now)
-        (marks / 2 ^ result.end / 2) }
+        (marks / 2 ^ (result.end + 1)) }
 {
     let end = first_end(left, marks, separator, dialect.has_quotes);
     part_to(text, left, end, separator, dialect)

@@ -43,39 +43,39 @@ pub(crate) fn done(behind: Left<'_>, column: usize) -> ReadOn<'_>
     }
 }
 
-// Whether a cell is its row's last, and something is wrong with the row's end. With this cell,
-// `count` of the table's `columns` columns are read.
+// Whether the cell of a column is its row's last, and something is wrong with the row's end.
 #[inline(always)]
 pub(crate) fn ends_wrong(
     left: &[u8],
     part: Part,
-    count: usize,
+    column: usize,
     columns: usize,
     dialect: &Dialect<'_>,
 ) -> bool
     requires within { part.size < length left.now }
-    ensures count { result ≡ false → part.is_last ≡ true → count ≡ columns }
+    requires few { column < columns }
+    ensures count { result ≡ false → part.is_last ≡ true → column + 1 ≡ columns }
     ensures returned { result ≡ false → part.is_last ≡ true
         → (dialect.now.has_returns && (slice_index left.now part.size == line_feed)) ≡ false }
 {
     if !part.is_last {
         return false;
     }
-    if count != columns {
+    if column + 1 != columns {
         return true;
     }
     lacks_return(left, part.size, dialect.has_returns)
 }
 
 // Reports what is wrong with the end of a row, if anything is. Its last cell, the first of `left`,
-// is read, and `count` columns with it.
+// is read, that of a column.
 #[inline(always)]
 pub(crate) fn end_row(
     start: usize,
     text: &[u8],
     left: &[u8],
     part: Part,
-    count: usize,
+    column: usize,
     index: usize,
     columns: usize,
     separator: u8,
@@ -84,18 +84,18 @@ pub(crate) fn end_row(
 )
     requires fine { wrong.old ≡ None }
     requires columns { columns ≡ column_count dialect.now.layout }
-    requires few { count ≤ columns }
+    requires few { column < columns }
     requires within { length left.now ≤ length text.now }
     requires part { IsPart dialect.now separator text.now left.now part }
     requires last { part.is_last ≡ true }
     requires fits { start + length text.now < 2 ^ 64 }
-    ensures { wrong.new ≡ end_fault columns index (first_row dialect.now start text.now) count
-        None }
+    ensures { wrong.new ≡ end_fault columns index (first_row dialect.now start text.now)
+        (column + 1) None }
 {
-    if !ends_wrong(left, part, count, columns, dialect) {
+    if !ends_wrong(left, part, column, columns, dialect) {
         return;
     }
     let row = &text[..text.len() - left.len() + part.size];
     let lacks_return = lacks_return(left, part.size, dialect.has_returns);
-    put_end_fault(start, row, lacks_return, index, columns, count, wrong);
+    put_end_fault(start, row, lacks_return, index, columns, column + 1, wrong);
 }

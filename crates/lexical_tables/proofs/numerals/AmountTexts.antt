@@ -4,6 +4,7 @@ use Rattle.std.proofs.Math.IntN.{pos}
 use Rattle.std.proofs.Math.Nat.{one-le-pow, mul-le-mul_left}
 use Rattle.std.proofs.lemmas.Bool.{and_right, cases_lt, eqb-true, false≢true}
 use Rattle.std.proofs.lemmas.Bool.Decides.{nat_tests}
+use Rattle.std.proofs.lemmas.List.{get_or-take}
 use Rattle.std.specs.Prelude.{if◌then◌else◌, IsNone, IsTrue}
 use mir.Val.{bool_byte}
 use Rattle.lexical_util.specs.Ascii.{minus}
@@ -206,7 +207,8 @@ module _ (point places : ℕ) (takes : Bool) (digits : List ℕ) (behind number 
 
       read_none : NoPoint → 1 ≤ places → complete_fixed f t (text_of b) ≡ Ok (with_sign b units)
       read_none none most =
-          whole_read f t b (text_of b) digits (with_sign b units) (no_fault (fixed_fault f) valid) bare (law f.integer t (text_of b))
+          whole_read f t b (text_of b) digits (with_sign b units) (no_fault (fixed_fault f) valid)
+          (plain_of f (no_fault (fixed_fault f) valid) bare) (no_zero_leads f digits bare) (law f.integer t (text_of b))
           (behind_sign b signed) (minus_here b signed) (record {
             written = with_sign b number;
             takes = same_fewer ∙ at.takes (omega (arith, none.0, most));
@@ -227,6 +229,19 @@ module _ (point places : ℕ) (takes : Bool) (digits : List ℕ) (behind number 
     }
 
 -- ---- at the front of a text
+
+-- a point with all places behind it
+pub all_behind : (point places : ℕ) (takes : Bool) (held : List ℕ) (count : ℕ) → count ≤ length held → places + 2 ≤ count
+    → get_or held (count - 1 - places) 0 ≡ point → IsBehindPoint point places takes (take count held) places
+all_behind point places takes held count within room at =
+    let long = length-take-le count held within in record {
+      most = omega arith;
+      takes = λ less. absurd (omega (arith, less));
+      room = λ some. omega (arith, room, long);
+      stands = λ some.
+          ap (λ n. get_or (take count held) (n - 1 - places) 0) long
+          ∙ get_or-take count held (count - 1 - places) 0 (omega (arith, room)) ∙ at;
+    }
 
 split_sign : (b : Bool) (text : List ℕ) (size count start : ℕ) → start ≡ bool_byte b → start + count ≡ size
     → 1 ≤ count → b ≡ (get_or text 0 0 == 45)

@@ -21,5 +21,5 @@ returns-in-Some-point_before g c =
 pub returns : goal.returns
 returns g c =
     if_found c.value_of_fewer.result (λ units it. fewer_read c.args.format.now g.T.Integer.TYPE _ c.args.text.now _ (g.T.Integer.number units) c.requires.valid
-    (subst IsBare c.integer.ensures (c.is_bare.ensures c.if-not-is_bare.false)) (c.front_digits.ensures c.args.format.now.integer g.T.Integer.TYPE c.args.text.now)
+    (plain_of c.args.format.now c.requires.valid (subst IsBare c.integer.ensures (c.is_bare.ensures c.if-not-is_bare.false))) (no_zero_leads c.args.format.now c.behind_minus-is_negative.result.1.now (subst IsBare c.integer.ensures (c.is_bare.ensures c.if-not-is_bare.false))) (c.front_digits.ensures c.args.format.now.integer g.T.Integer.TYPE c.args.text.now)
     c.behind_minus-is_negative.ensures.behind c.behind_minus-is_negative.ensures.minus it) c.value_of_fewer.ensures
