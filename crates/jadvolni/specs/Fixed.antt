@@ -28,6 +28,13 @@ integer_of fields =
     then record (format_of fields) { mantissa_radix = 10; required_mantissa_digits = true }
     else format_of fields
 
+-- the standard format with the fields' separator between digits
+abbrev pub separated : FormatFields → Format
+separated fields = record standard {
+  digit_separator = Some fields.digit_separator;
+  integer_internal_digit_separator = true;
+}
+
 -- the point, which is `.` where the field is 0
 abbrev pub point_of : ℕ → ℕ
 point_of byte = if byte == 0 then 46 else byte

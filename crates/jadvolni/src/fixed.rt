@@ -5,14 +5,16 @@ ghost use Rattle.lexical_fixed.specs.Validity.{fixed_fault};
 ghost use Rattle.lexical_util.specs.Format.{standard};
 ghost use Rattle.lexical_util.specs.Kind.{kind_of};
 ghost use Rattle.lexical_util.specs.declared.format.kind.FormatKind.TheVariants.{Decimal};
-ghost use Rattle.jadvolni.specs.Fixed.{IsPlainFixed, fixed_format_status, fixed_known, fixed_of, fixed_status, integer_of};
+ghost use Rattle.jadvolni.specs.Fixed.{IsPlainFixed, fixed_format_status, fixed_known, fixed_of, fixed_status, integer_of, separated};
 ghost use Rattle.jadvolni.specs.FormatFields.{are_known, are_zeros, format_of};
 ghost use Rattle.jadvolni.specs.Tables.{number_status};
 
 use crate::format::FormatFields;
 use crate::outcome::{UNKNOWN_FIELD, status_of};
 use lexical_fixed::{FixedFormat, FixedFormatError};
+use lexical_parse_integer::NumberFormatBuilder;
 use lexical_parse_integer::format::STANDARD;
+use lexical_util::format::FormatKind;
 
 /// A description of fixed-point numbers, byte by byte: `jadvolni_fixed` in C, where each field is described.
 ///
@@ -164,6 +166,40 @@ impl FixedFields {
             places: self.places,
             takes_fewer: self.takes_fewer != 0,
             integer: STANDARD,
+        }
+    }
+
+    // Whether the integer part asks for a separator between digits, and has the standard format in all else.
+    #[inline(always)]
+    pub(crate) fn has_separator_alone(&self) -> bool
+        ensures { IsTrue result → integer_of self.now.integer ≡ separated self.now.integer }
+    {
+        if self.integer.digit_separator == 0 || self.integer.integer_internal_digit_separator == 0 {
+            return false;
+        }
+        let rest = FormatFields {
+            digit_separator: 0,
+            integer_internal_digit_separator: 0,
+            ..self.integer
+        };
+        rest.is_standard() || rest.is_zero()
+    }
+
+    // The description of such fields, for which it is valid. It isn't made field by field.
+    #[inline(always)]
+    pub(crate) fn separated(&self) -> FixedFormat
+        requires valid { fixed_fault (fixed_of self.now) ≡ None }
+        requires alone { integer_of self.now.integer ≡ separated self.now.integer }
+        ensures { result ≡ fixed_of self.now }
+    {
+        FixedFormat {
+            integer: NumberFormatBuilder::new()
+                .mantissa_radix(10)
+                .required_mantissa_digits(true)
+                .digit_separator(Some(self.integer.digit_separator))
+                .integer_internal_digit_separator(true)
+                .build_of_kind(FormatKind::Other),
+            ..self.standard()
         }
     }
 

@@ -16,7 +16,8 @@ use lexical_tables::codes::{AT_ONCE, PARSED};
 use lexical_tables::{is_quick, units_of_front};
 
 impl ColumnFields<'_> {
-    // The description of its fixed-point numbers. One with the standard format isn't made field by field.
+    // The description of its fixed-point numbers. One with the standard format, or with a separator beside it, isn't made field by
+    // field.
     #[inline(always)]
     #[tactic(auto, using(crate::proofs::ColumnNumbers::standard_is))]
     fn fixed_format(&self) -> FixedFormat
@@ -25,6 +26,9 @@ impl ColumnFields<'_> {
     {
         if self.description.has_standard_integer() {
             return self.description.standard();
+        }
+        if self.description.has_separator_alone() {
+            return self.description.separated();
         }
         self.description.valid_format()
     }
@@ -35,7 +39,7 @@ impl ColumnFields<'_> {
         requires numbers { has_numbers (target_of self.now) ≡ true }
         ensures { IsCode result (target_of self.now) }
     {
-        if self.description.places <= 6 && self.description.has_decimal_integer() {
+        if self.description.places <= 11 && self.description.has_decimal_integer() {
             AT_ONCE
         } else {
             PARSED

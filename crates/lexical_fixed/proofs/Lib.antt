@@ -12,6 +12,7 @@ mod IntegerParts
 mod JoinedDigits
 mod LastFractions
 mod LastPoints
+pub mod NumbersInUnits
 mod PartedTexts
 mod Places
 mod QuickDigits

@@ -1,5 +1,5 @@
 -- What the quick way finds out about a text, before it has a number.
-use Rattle.std.specs.Prelude.{◌≡◌, ◌+◌, ◌-◌, ◌^◌, pos, ◌<◌, ◌≤◌, ℕ, ℤ, ◌==◌, ◌&&◌, Bool, true, false, not, nat_le, if◌then◌else◌, List, ◌++◌, drop, length, slice_get, slice_index, take, None, Some}
+use Rattle.std.specs.Prelude.{◌≡◌, ◌+◌, ◌-◌, ◌*◌, ◌^◌, pos, ◌<◌, ◌≤◌, ℕ, ℤ, ◌==◌, ◌&&◌, Bool, true, false, not, nat_le, if◌then◌else◌, List, ◌++◌, drop, length, slice_get, slice_index, take, None, Some}
 use Rattle.lexical_util.specs.Ascii.{digit_zero}
 use Rattle.lexical_digits.specs.Value.{with_sign}
 use Rattle.lexical_digits.specs.Words.{AreDigits, word_value}
@@ -9,6 +9,7 @@ use Rattle.lexical_util.specs.Number.{IntegerType, IsNumber, is_number, mul_add}
 use Rattle.lexical_parse_integer.specs.Runs.{are_same}
 use Rattle.lexical_fixed.specs.Fixed.{Fixed}
 use Rattle.lexical_fixed.specs.Fraction.{fraction, fraction_length, front_end, is_cut}
+use Rattle.lexical_fixed.specs.Parted.{IsParted}
 
 -- The fraction has `count` digits, fewer than eight, which write `number`; no more digits stand
 -- behind it.
@@ -25,6 +26,11 @@ pub record IsFraction (fixed : Fixed) (text : List ℕ) (place number count : �
 -- the bytes but for the one at a place
 abbrev pub without : ℕ → List ℕ → List ℕ
 without place bytes = take place bytes ++ drop (place + 1) bytes
+
+-- the bytes without the point, which has `count` bytes behind it, or all where that is 0
+abbrev pub without_point : ℕ → List ℕ → List ℕ
+without_point count bytes =
+    if count == 0 then bytes else without (length bytes - 1 - count) bytes
 
 -- a zero stands in front of another byte than the point, where the integer part's format forbids zeros there
 abbrev pub leads_with_zero : Fixed → List ℕ → Bool
@@ -85,3 +91,13 @@ pub record IsFilledWhole (fixed : Fixed) (type : IntegerType) (is_negative : Boo
   pub stands : StandsFor type 10 is_negative bytes written
   pub filled : value ≡ mul_add is_negative written (pos (10 ^ fixed.places)) (pos 0)
   pub fits : is_number type value ≡ true
+
+-- A value is the number of the digits around a point, or of digits alone, in units of the last place.
+pub record IsInUnits (fixed : Fixed) (type : IntegerType) (is_negative : Bool) (bytes : List ℕ)
+    (value : ℤ) : Type 0 where
+  pub count : ℕ
+  pub number : ℕ
+  pub parted : IsParted fixed bytes count
+  pub joined : IsJoined (without_point count bytes) number
+  pub worth : value ≡ with_sign is_negative (number * 10 ^ (fixed.places - count))
+  pub fits : IsNumber type value

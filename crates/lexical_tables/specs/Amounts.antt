@@ -1,10 +1,10 @@
 -- Amounts that are read at once: fixed-point numbers of few places, with all of them or fewer.
-use Rattle.std.specs.Prelude.{◌≡◌, ◌≢◌, ◌+◌, ◌-◌, ◌<◌, ◌≤◌, ◌==◌, ℕ, Bool, false, true, if◌then◌else◌, IsTrue, List, length, slice_index, Ok, Option, Some, None, ⊤}
+use Rattle.std.specs.Prelude.{◌≡◌, ◌≢◌, ◌+◌, ◌-◌, ◌<◌, ◌≤◌, ℕ, Bool, false, true, IsTrue, List, length, slice_index, Ok, Option, Some, None, ⊤}
 use Rattle.lexical_digits.specs.Value.{with_sign}
 use Rattle.lexical_util.specs.Number.{IntegerType, IsNumber}
 use Rattle.lexical_fixed.specs.Fixed.{Fixed}
 use Rattle.lexical_fixed.specs.Grammar.{complete_fixed}
-use Rattle.lexical_fixed.specs.Quick.{IsBare, without}
+use Rattle.lexical_fixed.specs.Quick.{IsBare}
 use Rattle.lexical_fixed.specs.Validity.{fixed_fault}
 use Rattle.lexical_tables.specs.Cells.{ends_in_digit}
 use Rattle.lexical_tables.specs.Quotes.{quote}
@@ -12,12 +12,13 @@ use Rattle.lexical_tables.specs.Readings.{FixedPoints, Integers, Reading, Texts}
 use Rattle.lexical_tables.specs.Targets.{TargetView, has_bits}
 use Rattle.lexical_tables.specs.declared.dialect.Dialect.{Dialect}
 
--- A description of amounts that are read at once: it has one to six places, its point is no quote, and its integer part has
--- no separator, asks for no sign and lets zeros stand in front.
+-- A description of amounts that are read at once: it has one to eleven places, or six at most if it takes fewer, its point is
+-- no quote, and its integer part has no separator, asks for no sign and lets zeros stand in front.
 pub record IsQuick (fixed : Fixed) : Type 0 where
   pub bare : IsBare fixed.integer
   pub some : 1 ≤ fixed.places
-  pub few : fixed.places ≤ 6
+  pub few : fixed.places ≤ 11
+  pub fewer : IsTrue fixed.takes_fewer → fixed.places ≤ 6
   pub point : fixed.point ≢ quote
 
 -- cells are read as such amounts
@@ -67,11 +68,6 @@ pub record IsBehindPoint (point places : ℕ) (takes_fewer : Bool) (text : List 
   pub takes : count < places → takes_fewer ≡ true
   pub room : 1 ≤ count → count + 2 ≤ length text
   pub stands : 1 ≤ count → slice_index text (length text - 1 - count) ≡ point
-
--- the bytes of a text without the point, which has `count` bytes behind it, or all where that is 0
-abbrev pub without_point : ℕ → List ℕ → List ℕ
-without_point count text =
-    if count == 0 then text else without (length text - 1 - count) text
 
 -- In a column of such amounts no blanks stand in cells, and what stands for a missing number is none itself.
 pub record IsAmountsIn (dialect : Dialect) (target : Option TargetView) : Type 0 where

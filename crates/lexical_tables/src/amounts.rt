@@ -2,8 +2,8 @@
 
 ghost use Rattle.std.specs.Prelude.{◌≡◌, ◌+◌, ◌-◌, ◌*◌, ◌<◌, ◌≤◌, ◌^◌, ◌++◌, ◌∷◌, [], IfSome, IsTrue, length, slice_index, take, true};
 ghost use Rattle.lexical_digits.specs.WrittenNumbers.{WritesDecimal};
-ghost use Rattle.lexical_fixed.specs.Quick.{without};
-ghost use Rattle.lexical_tables.specs.Amounts.{IsAmount, IsBehindPoint, IsQuick, without_point};
+ghost use Rattle.lexical_fixed.specs.Quick.{without, without_point};
+ghost use Rattle.lexical_tables.specs.Amounts.{IsAmount, IsBehindPoint, IsQuick};
 
 use lexical_fields::number_to_12;
 use lexical_fixed::FixedFormat;
@@ -89,7 +89,7 @@ fn number_written(text: &[u8], count: usize, behind: usize) -> Option<u64>
 #[inline(always)]
 fn stands_before(text: &[u8], count: usize, point: u8, behind: usize) -> bool
     requires within { count ≤ length text.now }
-    requires few { behind ≤ 6 }
+    requires few { behind ≤ 11 }
     ensures { IsTrue result → (behind + 2 ≤ count)
         × (slice_index text.now (count - 1 - behind) ≡ point) }
 {
@@ -116,9 +116,9 @@ fn count_behind(text: &[u8], count: usize, point: u8, places: usize) -> usize
 
 /// The units of the last place that a text's first `size` bytes stand for, and whether a minus
 /// stands in front. The bytes have to be up to twelve decimal digits, alone or behind a minus, and
-/// among them the point with `places` digits behind it, one to six. If `takes_fewer`, one digit
-/// behind the point is enough, or no point at all. Seventeen bytes have to follow them. `None` says
-/// nothing of them.
+/// among them the point with `places` digits behind it, one to eleven. If `takes_fewer`, `places` is
+/// six at most, and one digit behind the point is enough, or no point at all. Seventeen bytes have
+/// to follow them. `None` says nothing of them.
 ///
 /// It is for a [`TableColumn`](crate::TableColumn) of one's own, in its `read_amount`.
 #[inline(always)]
@@ -130,7 +130,8 @@ pub fn units_of_front(
     takes_fewer: bool,
 ) -> Option<(bool, u64)>
     requires some { 1 ≤ places }
-    requires few { places ≤ 6 }
+    requires few { places ≤ 11 }
+    requires fewer { IsTrue takes_fewer → places ≤ 6 }
     requires room { size + 17 ≤ length text.now }
     ensures stands { IfSome result (λ found. IsAmount point places takes_fewer
         found.0 found.1 (take size text.now)) }
@@ -156,8 +157,8 @@ pub fn units_of_front(
     Some((is_negative, number * power_of_ten(places - behind)))
 }
 
-/// Whether amounts under a description are read by [`units_of_front`]: it has one to six places, its point is no quote, and its
-/// integer part has no separator, asks for no sign and lets zeros stand in front.
+/// Whether amounts under a description are read by [`units_of_front`]: it has one to eleven places, or six at most if it takes
+/// fewer, its point is no quote, and its integer part has no separator, asks for no sign and lets zeros stand in front.
 #[inline]
 pub fn is_quick(format: &FixedFormat) -> bool
     ensures { IsTrue result → IsQuick format.now }
@@ -169,5 +170,6 @@ pub fn is_quick(format: &FixedFormat) -> bool
     if integer.no_integer_leading_zeros() || format.point() == b'"' {
         return false;
     }
-    format.places() >= 1 && format.places() <= 6
+    let most = if format.takes_fewer() { 6 } else { 11 };
+    format.places() >= 1 && format.places() <= most
 }

@@ -1,7 +1,5 @@
 -- Digits around a point, behind a minus or none: what they stand for, and what their bytes are.
 use Rattle.std.proofs.Common.{◌≡◌, ◌≢◌, ◌∙◌, ℕ, zero, suc, ◌+◌, ◌-◌, ◌*◌, ◌^◌, ◌<◌, ◌≤◌, ◌==◌, ◌&&◌, Bool, true, false, cond, List, [], ◌∷◌, ◌++◌, length, length-drop, length-take-le, get_or, take, drop, is_some, Option, Some, None, Ok, refl, ap, sym, subst, arith, ◌⊎◌, inl, inr}
-use Rattle.std.proofs.Math.IntN.{pos}
-use Rattle.std.proofs.Math.Nat.{one-le-pow, mul-le-mul_left}
 use Rattle.std.proofs.lemmas.Bool.{and_right, cases_lt, eqb-true, false≢true}
 use Rattle.std.proofs.lemmas.Bool.Decides.{nat_tests}
 use Rattle.std.proofs.lemmas.List.{get_or-take}
@@ -10,24 +8,22 @@ use mir.Val.{bool_byte}
 use Rattle.lexical_util.specs.Ascii.{minus}
 use Rattle.lexical_util.specs.Digit.{digit}
 use Rattle.lexical_util.specs.Format.{Format}
-use Rattle.lexical_util.specs.Number.{IntegerType, IsNumber, mul_add}
+use Rattle.lexical_util.specs.Number.{IntegerType, IsNumber}
 use Rattle.lexical_digits.specs.Value.{with_sign}
 use Rattle.lexical_digits.specs.Words.{AreDigits, word_value}
 use Rattle.lexical_digits.specs.WrittenNumbers.{WritesDecimal}
-use Rattle.lexical_digits.proofs.DigitValues.{with_sign-step}
-use Rattle.lexical_digits.proofs.LongNumbers.{stands}
 use Rattle.lexical_digits.proofs.WordsOfDigits.{raised_none}
 use Rattle.lexical_parse_integer.specs.Laws.{TellsDigits}
 use Rattle.lexical_parse_integer.specs.Plain.{IsBehind}
 use Rattle.lexical_fixed.specs.Fixed.{Fixed}
 use Rattle.lexical_fixed.specs.Grammar.{complete_fixed, is_negative}
-use Rattle.lexical_fixed.specs.Quick.{IsBare, IsJoined, IsLastPoint, without}
+use Rattle.lexical_fixed.specs.Quick.{IsBare, IsInUnits, IsJoined, without, without_point}
 use Rattle.lexical_fixed.specs.Validity.{fixed_fault}
 use Rattle.lexical_fixed.specs.declared.error.FixedFormatError.{FixedFormatError}
-use Rattle.lexical_fixed.proofs.Digits.{is_number-below}
 use Rattle.lexical_fixed.proofs.Valid.{is_none}
-use Rattle.lexical_fixed.proofs.ShortNumbers.{minus_is, no_zero_leads, plain_of, point_read, stands_there, whole_read}
-use Rattle.lexical_tables.specs.Amounts.{IsAmount, IsAmountText, IsBehindPoint, without_point}
+use Rattle.lexical_fixed.proofs.ShortNumbers.{minus_is, no_zero_leads, plain_of, stands_there}
+use Rattle.lexical_fixed.proofs.NumbersInUnits.{units_read}
+use Rattle.lexical_tables.specs.Amounts.{IsAmount, IsAmountText, IsBehindPoint}
 use Rattle.lexical_tables.specs.Quotes.{quote}
 use Rattle.lexical_fields.proofs.FieldsInParts.{either}
 use Rattle.lexical_tables.proofs.numerals.AmountBytes.{without_is}
@@ -139,8 +135,7 @@ module _ (point places : ℕ) (takes : Bool) (digits : List ℕ) (behind number 
 
   -- ---- the number
 
-  module _ (short : places ≤ 6) (few : length digits ≤ 13)
-      (law : (format : Format) (type : IntegerType) (text : List ℕ) → IsNone format.digit_separator → IsNone format.base_suffix
+  module _ (law : (format : Format) (type : IntegerType) (text : List ℕ) → IsNone format.digit_separator → IsNone format.base_suffix
       → TellsDigits format type text) where
     abbrev units : ℕ
     units = number * 10 ^ (places - behind)
@@ -168,63 +163,37 @@ module _ (point places : ℕ) (takes : Bool) (digits : List ℕ) (behind number 
       minus_here true signed =
           sym (ap (λ s. s && true) (signed refl)) ∙ minus_is t (minus ∷ digits) (omega arith)
 
-      one : 1 ≤ 10 ^ (places - behind)
-      one = one-le-pow (places - behind) 10 (omega arith)
-
-      below : number ≤ units
-      below = let up : number * 1 ≤ number * 10 ^ (places - behind) = mul-le-mul_left number one in omega (arith, up)
-
-      written_fits : IsNumber t (with_sign b number)
-      written_fits = is_number-below t b number units below fits
-
-      filled : with_sign b units ≡ mul_add b (with_sign b number) (pos (10 ^ (places - behind))) (pos 0)
-      filled =
-          sym (with_sign-step b number (10 ^ (places - behind)) 0
-          ∙ ap (with_sign b) (let whole : units + 0 ≡ units = omega arith in whole))
-
       left : places ≡ f.places → (f.places ≤ behind) ⊎ (f.takes_fewer ≡ true)
       left same = elim (cases_lt behind places) [
         | inl lt ↦ inr (same_fewer ∙ at.takes lt)
         | inr ge ↦ inl (omega (arith, ge, same))
       ]
 
-      read_one : OnePoint → complete_fixed f t (text_of b) ≡ Ok (with_sign b units)
-      read_one there =
-          let room = at.room there.0 in
-          let last : IsLastPoint f digits place behind = record {
-            few = omega (arith, few);
-            short = omega (arith, short, at.most);
-            before = omega (arith, room);
-            behind = there.0;
-            room = omega (arith, at.most, same_places);
-            size = omega (arith, room);
-            point = stands_there f.point digits place (omega (arith, room)) (at.stands there.0 ∙ sym same_point);
-          } in
-          point_read f t b (text_of b) digits place behind number (with_sign b number) (with_sign b units) (places - behind)
-          (no_fault (fixed_fault f) valid) (plain_of f (no_fault (fixed_fault f) valid) bare) (no_zero_leads f digits bare) (law f.integer t (text_of b) (is_none f.integer.digit_separator bare.no_separator))
-          (behind_sign b signed) (minus_here b signed) last (joined_of (without place digits) there.1) refl written_fits
-          (ap (λ n. n - behind) (sym same_places)) (left (sym same_places)) (inr (filled, fits))
+      in_units : IsInUnits f t b digits (with_sign b units)
+      in_units = record {
+        count = behind;
+        number = number;
+        parted = record {
+          some = some;
+          room = omega (arith, at.most, same_places);
+          taken = left (sym same_places);
+          before = at.room;
+          point = λ one. stands_there f.point digits place (let room = at.room one in omega (arith, room, one)) (at.stands one ∙ sym same_point);
+        };
+        joined = joined_of (without_point behind digits) writes;
+        worth = ap (λ n. with_sign b (number * 10 ^ (n - behind))) (sym same_places);
+        fits = fits;
+      }
 
-      read_none : NoPoint → 1 ≤ places → complete_fixed f t (text_of b) ≡ Ok (with_sign b units)
-      read_none none most =
-          whole_read f t b (text_of b) digits (with_sign b units) (no_fault (fixed_fault f) valid)
-          (plain_of f (no_fault (fixed_fault f) valid) bare) (no_zero_leads f digits bare) (law f.integer t (text_of b))
-          (behind_sign b signed) (minus_here b signed) (record {
-            written = with_sign b number;
-            takes = same_fewer ∙ at.takes (omega (arith, none.0, most));
-            some = some;
-            stands = stands t b digits number (with_sign b number) none.1 refl written_fits;
-            filled = filled ∙ ap (λ n. mul_add b (with_sign b number) (pos (10 ^ n)) (pos 0)) (omega (arith, none.0, same_places));
-            fits = fits;
-          })
+      read_units : complete_fixed f t (text_of b) ≡ Ok (with_sign b units)
+      read_units =
+          units_read f t b (text_of b) digits (with_sign b units) (no_fault (fixed_fault f) valid) (plain_of f (no_fault (fixed_fault f) valid) bare)
+          (no_zero_leads f digits bare) (law f.integer t (text_of b)) (behind_sign b signed) (minus_here b signed) in_units
 
     -- a text of them stands for the units
-    amount_of : (b : Bool) → 1 ≤ places → IsAmount point places takes b units (text_of b)
-    amount_of b most = record {
-      stands = λ f t valid bare p n w fits signed. elim by_point [
-        | inl none ↦ read_none f t b valid bare p n w fits signed none most
-        | inr one ↦ read_one f t b valid bare p n w fits signed one
-      ];
+    amount_of : (b : Bool) → IsAmount point places takes b units (text_of b)
+    amount_of b = record {
+      stands = λ f t valid bare p n w fits signed. read_units f t b valid bare p n w fits signed;
       bytes = text_is b;
     }
 
@@ -258,15 +227,15 @@ split_sign true (c ∷ cs) size count start at whole some is =
     ∙ ap (λ n. minus ∷ take count (drop n (c ∷ cs))) (sym one)
 
 pub front_amount : (point places : ℕ) (takes b : Bool) (text held : List ℕ) (size count start behind number power : ℕ)
-    → start ≡ bool_byte b → held ≡ drop start text → start + count ≡ size → 1 ≤ count → count ≤ 13 → size ≤ length text
-    → b ≡ (get_or text 0 0 == 45) → 1 ≤ places → places ≤ 6
+    → start ≡ bool_byte b → held ≡ drop start text → start + count ≡ size → 1 ≤ count → size ≤ length text
+    → b ≡ (get_or text 0 0 == 45)
     → IsBehindPoint point places takes (take count held) behind
     → WritesDecimal 0 (without_point behind (take count held)) number
     → power ≡ 10 ^ (places - behind)
     → ((format : Format) (type : IntegerType) (text : List ℕ) → IsNone format.digit_separator → IsNone format.base_suffix
     → TellsDigits format type text)
     → IsAmount point places takes b (number * power) (take size text)
-front_amount point places takes b text held size count start behind number power at tail whole some few room is most short it writes scale law =
+front_amount point places takes b text held size count start behind number power at tail whole some room is it writes scale law =
     let digits = take count held in
     let held_long : length held ≡ length text - start = ap length tail ∙ length-drop start text in
     let long : length digits ≡ count = length-take-le count held (omega (arith, held_long, room, whole)) in
@@ -274,4 +243,4 @@ front_amount point places takes b text held size count start behind number power
     subst (IsAmount point places takes b (number * power))
     (ap (λ ds. if b then minus ∷ ds else ds) (sym same) ∙ sym (split_sign b text size count start at whole some is))
     (subst (λ p. IsAmount point places takes b (number * p) (if b then minus ∷ digits else digits)) (sym scale)
-    (amount_of point places takes digits behind number it (omega (arith, long, some)) writes short (omega (arith, long, few)) law b most))
+    (amount_of point places takes digits behind number it (omega (arith, long, some)) writes law b))

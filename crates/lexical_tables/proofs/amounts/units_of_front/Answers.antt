@@ -13,8 +13,7 @@ returns-clause-stands c =
     _ c.from.result c.count_behind-behind.result c.in_ok-number-2.number c.power_of_ten.result
     c.from.ensures (rest_is c.args.text.now c.from.result)
     (grind (arith, nat_tests, c.if-count-gt12.false, c.from.ensures, c.from-2.ensures)) (grind (arith, nat_tests, c.if-count-gt12.false))
-    (grind (arith, nat_tests, c.if-count-gt12.false)) (omega (arith, c.requires.room)) refl
-    c.requires.some c.requires.few c.count_behind-behind.ensures c.in_ok-number-2.ensures.writes c.power_of_ten.ensures.value c.front_digits.ensures)
+    (omega (arith, c.requires.room)) refl c.count_behind-behind.ensures c.in_ok-number-2.ensures.writes c.power_of_ten.ensures.value c.front_digits.ensures)
 
 pub returns-then-stands_before-clause-stands : goal.returns-then-stands_before-clause-stands
 returns-then-stands_before-clause-stands c =
@@ -31,6 +30,5 @@ returns-then-stands_before-clause-stands c =
     (front_amount c.args.point p c.args.takes_fewer b text _ c.args.size _ c.from.result p number 1
     c.from.ensures (rest_is text c.from.result)
     (grind (arith, nat_tests, c.if-count-gt12.false, c.from.ensures, c.from-2.ensures)) (grind (arith, nat_tests, c.if-count-gt12.false))
-    (grind (arith, nat_tests, c.if-count-gt12.false)) (omega (arith, c.requires.room)) refl
-    c.requires.some c.requires.few (all_behind c.args.point p c.args.takes_fewer _ _
+    (omega (arith, c.requires.room)) refl (all_behind c.args.point p c.args.takes_fewer _ _
     (grind (arith, nat_tests, c.if-count-gt12.false, c.from.ensures, c.from-2.ensures, c.requires.room, long)) found.0 found.1) c.in_ok-number.ensures.writes one c.front_digits.ensures)

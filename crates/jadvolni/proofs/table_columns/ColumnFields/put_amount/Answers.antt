@@ -23,9 +23,11 @@ units_of_front-requires c =
     let type_is = sym c.number_type.ensures ∙ c.in-Some.is in
     let quick = quick_there c.args.self.now c.in-Some.numbers type_is above c.requires.amounts in
     let places = c.places.ensures ∙ ap (λ (it : Fixed). it.places) c.standard-format.ensures in
+    let takes = c.takes_fewer.ensures ∙ ap (λ (it : Fixed). it.takes_fewer) c.standard-format.ensures in
     record {
       some = omega (arith, places, quick.some);
       few = omega (arith, places, quick.few);
+      fewer = λ is. let few = quick.fewer (sym takes ∙ is) in omega (arith, places, few);
       room = c.requires.room;
     }
 
