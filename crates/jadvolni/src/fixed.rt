@@ -169,6 +169,14 @@ impl FixedFields {
         }
     }
 
+    // Whether the integer part's format forbids leading zeros.
+    #[inline(always)]
+    pub(crate) fn has_zero_rule(&self) -> bool
+        ensures { result ≡ (fixed_of self.now).integer.no_integer_leading_zeros }
+    {
+        self.integer.no_integer_leading_zeros != 0
+    }
+
     // Whether the integer part asks for a separator between digits, and has the standard format in all else.
     #[inline(always)]
     pub(crate) fn has_separator_alone(&self) -> bool

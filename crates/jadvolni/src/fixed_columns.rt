@@ -13,7 +13,7 @@ use crate::table_columns::ColumnFields;
 use lexical_fixed::FixedFormat;
 use lexical_parse_integer::Error;
 use lexical_tables::codes::{AT_ONCE, PARSED};
-use lexical_tables::{is_quick, units_of_front};
+use lexical_tables::{breaks_zero_rule, is_quick, units_of_front};
 
 impl ColumnFields<'_> {
     // The description of its fixed-point numbers. One with the standard format, or with a separator beside it, isn't made field by
@@ -82,6 +82,10 @@ impl ColumnFields<'_> {
             return false;
         };
         let format = self.description.standard();
+        let has_rule = self.description.has_zero_rule();
+        if breaks_zero_rule(ahead, size, has_rule, format.point()) {
+            return false;
+        }
         let Some((is_negative, units)) = units_of_front(
             ahead,
             size,

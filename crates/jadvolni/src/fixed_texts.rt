@@ -16,8 +16,8 @@ use crate::outcome::Outcome;
 use crate::slot::Slot;
 use lexical_fixed::FixedFormatError;
 use lexical_fixed::quick::{
-    complete_if_long, complete_if_not_short, front_at_once, partial_if_left, value_if_common,
-    value_if_fewer, value_if_short,
+    callers, complete_if_long, complete_if_not_short, front_at_once, partial_if_left,
+    value_if_common, value_if_fewer,
 };
 use lexical_util::num::Integer;
 use lexical_util::result::Result;
@@ -117,7 +117,7 @@ fn fixed_decimal<T: Integer, S: Slot<T>>(
     if !fields.is_decimal() {
         return fixed_any::<T, S>(text, fields, value);
     }
-    match value_if_short::<T>(text, &fields.decimal()) {
+    match value_if_common::<T, { callers::DECIMAL }>(text, &fields.decimal()) {
         Some(number) => store(Ok(number), text.len(), value),
         None => fixed_decimal_left::<T, S>(text, fields, value),
     }
@@ -177,7 +177,7 @@ pub fn fixed<T: Integer, S: Slot<T>>(text: &[u8], fields: &FixedFields, value: &
         ≡ fixed_call fields.now T.TYPE text.now (S.number value.old) }
 {
     if fields.is_plain() {
-        return match value_if_common::<T>(text, &fields.standard()) {
+        return match value_if_common::<T, { callers::KNOWN }>(text, &fields.standard()) {
             Some(number) => store(Ok(number), text.len(), value),
             None => fixed_plain::<T, S>(text, fields, value),
         };

@@ -37,11 +37,11 @@ short_is_number _ false n w128 short small = lt-ltb n (2 ^ 128) (omega arith)
 pub word_fits : (t : IntegerType) (n : ℕ) → IsWidth t.bits → 32 < t.bits → n < 4294967296 → IsNumber t (pos n)
 word_fits t n width wide small = short_is_number t.bits t.is_signed n width wide (omega arith)
 
--- two parts of up to eight digits
-pub joined_fit : (t : IntegerType) (front scale last : ℤ) (n s m : ℕ) → IsWidth t.bits → 32 < t.bits → front ≡ pos n → n ≤ 100000000 → scale ≡ pos s → s ≤ 100000000 → last ≡ pos m → m ≤ 100000000 →
+-- two parts, the first and the last of up to eight digits
+pub joined_fit : (t : IntegerType) (front scale last : ℤ) (n s m : ℕ) → IsWidth t.bits → 32 < t.bits → front ≡ pos n → n ≤ 100000000 → scale ≡ pos s → s ≤ 1000000000 → last ≡ pos m → m ≤ 100000000 →
     IsNumber t ((front *ℤ scale) +ℤ last)
 joined_fit t front scale last n s m width wide is_front few is_scale low is_last rest =
-    let most : n * s ≤ 100000000 * 100000000 = mul-le n s 100000000 100000000 few low in
+    let most : n * s ≤ 100000000 * 1000000000 = mul-le n s 100000000 1000000000 few low in
     rw (is_front, is_scale, is_last) (short_is_number t.bits t.is_signed (n * s + m) width wide (omega arith))
 
 -- ---- what parts are worth

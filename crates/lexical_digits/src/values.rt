@@ -56,7 +56,7 @@ pub fn join_parts<T: Integer>(high: u32, scale: u32, low: u32) -> T
     requires bits { 32 < T.TYPE.bits }
     requires high { high ≤ 100000000 }
     requires some { 1 ≤ scale }
-    requires scale { scale ≤ 100000000 }
+    requires scale { scale ≤ 1000000000 }
     requires low { low ≤ 100000000 }
     ensures value { T.number result ≡ pos (high * scale + low) }
     ensures positive { pos 0 ≤ℤ T.number result }
@@ -77,7 +77,7 @@ pub fn value_of_parts<T: Integer>(
     requires first { first < 100000000 }
     requires second { second < 100000000 }
     requires some { 1 ≤ scale }
-    requires scale { scale ≤ 100000000 }
+    requires scale { scale ≤ 1000000000 }
     ensures value { IfSome result
         (λ value. T.number value ≡ with_sign is_negative (first * scale + second)) }
     ensures fits { IfSome result (λ value. IsNumber T.TYPE (T.number value)) }

@@ -32,11 +32,16 @@ abbrev pub without_point : ℕ → List ℕ → List ℕ
 without_point count bytes =
     if count == 0 then bytes else without (length bytes - 1 - count) bytes
 
--- a zero stands in front of another byte than the point, where the integer part's format forbids zeros there
+-- a zero stands in front of another byte than the point
+abbrev pub begins_with_zero : ℕ → List ℕ → Bool
+begins_with_zero point bytes =
+    nat_le 2 (length bytes) && (slice_index bytes 0 == digit_zero)
+    && not (slice_index bytes 1 == point)
+
+-- it does, and the integer part's format forbids zeros there
 abbrev pub leads_with_zero : Fixed → List ℕ → Bool
 leads_with_zero fixed bytes =
-    fixed.integer.no_integer_leading_zeros && nat_le 2 (length bytes)
-    && (slice_index bytes 0 == digit_zero) && not (slice_index bytes 1 == fixed.point)
+    fixed.integer.no_integer_leading_zeros && begins_with_zero fixed.point bytes
 
 -- Bytes are digits, which write a number.
 pub record IsJoined (bytes : List ℕ) (number : ℕ) : Type 0 where

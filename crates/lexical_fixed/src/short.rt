@@ -3,37 +3,33 @@
 ghost use Rattle.std.specs.Prelude.{◌≡◌, ◌+◌, ◌<◌, ◌≤◌, ◌⊎◌, IfSome, IsNone, IsTrue, Ok, length};
 ghost use Rattle.lexical_parse_integer.specs.Plain.{IsBehind};
 ghost use Rattle.lexical_fixed.specs.Grammar.{complete_fixed, is_negative};
-ghost use Rattle.lexical_fixed.specs.Quick.{IsBare, IsFilled, IsFilledWhole, IsLastPoint, IsValueWithout, leads_with_zero};
+ghost use Rattle.lexical_fixed.specs.Quick.{IsBare, IsFilled, IsFilledWhole, IsLastPoint, IsValueWithout, begins_with_zero, leads_with_zero};
 ghost use Rattle.lexical_fixed.specs.Validity.{fixed_fault};
 
 use crate::append::append_number;
 use crate::format::FixedFormat;
 use crate::joined::{number_without, numbers_without};
+use crate::quick::callers;
 use lexical_digits::values::{value_of_parts, value_to_8, value_to_16};
 use lexical_parse_integer::laws::grammar::front_digits;
 use lexical_parse_integer::quick::is_decimal;
-use lexical_util::format::NumberFormat;
 use lexical_util::num::Integer;
 
-// Whether a format has no separator, asks for no sign and lets zeros stand in front.
+/// Whether a zero stands in front of another byte than the point: such digits are a fault where the integer part's format forbids
+/// leading zeros.
 #[inline(always)]
-pub(crate) fn is_bare(format: &NumberFormat) -> bool
-    ensures { IsTrue result → IsBare format.now }
+pub fn begins_with_zero(digits: &[u8], point: u8) -> bool
+    ensures { result ≡ begins_with_zero point digits.now }
 {
-    !(format.digit_separator().is_some()
-        | format.required_mantissa_sign()
-        | format.no_integer_leading_zeros())
+    digits.len() >= 2 && digits[0] == b'0' && digits[1] != point
 }
 
-// Whether a zero stands in front of another byte than the point, where the integer part's format forbids zeros there.
+// Whether the digits begin with such a zero, and the integer part's format forbids it.
 #[inline(always)]
 pub(crate) fn leads_with_zero(digits: &[u8], format: &FixedFormat) -> bool
     ensures { result ≡ leads_with_zero format.now digits.now }
 {
-    if !format.integer().no_integer_leading_zeros() || digits.len() < 2 {
-        return false;
-    }
-    digits[0] == b'0' && digits[1] != format.point()
+    format.integer().no_integer_leading_zeros() && begins_with_zero(digits, format.point())
 }
 
 // The place of the point in `least` to sixteen bytes, if `count` bytes stand behind it, which are
@@ -159,7 +155,7 @@ fn value_by_point<T: Integer>(digits: &[u8], place: usize, is_negative: bool) ->
 // The number in units of digits with fewer behind the point than there are places, or without a point, if the description takes
 // that.
 #[inline(always)]
-pub(crate) fn value_of_fewer<T: Integer>(
+pub(crate) fn value_of_fewer<T: Integer, const CALLER: u8>(
     digits: &[u8],
     format: &FixedFormat,
     is_negative: bool,
@@ -219,8 +215,10 @@ pub fn value_if_short<T: Integer>(text: &[u8], format: &FixedFormat) -> Option<T
 /// The number that the whole text stands for, for the texts that `value_if_short` reads, and in 32 or 64 bits for most of up to
 /// eight bytes with fewer digits behind the point than there are places, or without a point, if the description takes that. `None`
 /// says nothing of the text.
+///
+/// `CALLER` is one of [`callers`](crate::quick::callers), and changes no answer.
 #[inline(always)]
-pub fn value_if_common<T: Integer>(text: &[u8], format: &FixedFormat) -> Option<T>
+pub fn value_if_common<T: Integer, const CALLER: u8>(text: &[u8], format: &FixedFormat) -> Option<T>
     requires valid { IsNone (fixed_fault format.now) }
     ensures { IfSome result
         (λ units. complete_fixed format.now T.TYPE text.now ≡ Ok (T.number units)) }
@@ -231,10 +229,13 @@ pub fn value_if_common<T: Integer>(text: &[u8], format: &FixedFormat) -> Option<
     }
     // The law by which the front has a digit.
     front_digits();
-    if !is_bare(format.integer()) || text.is_empty() {
+    if !is_decimal(format.integer()) || text.is_empty() {
         return None;
     }
     let (is_negative, digits) = behind_minus::<T>(text);
+    if leads_with_zero(digits, format) {
+        return None;
+    }
     if digits.len() > 8 {
         let Some(place) = point_before(digits, format, 4, format.places()) else {
             return None;
@@ -244,7 +245,7 @@ pub fn value_if_common<T: Integer>(text: &[u8], format: &FixedFormat) -> Option<
     if let Some(place) = point_before(digits, format, 4, format.places()) {
         return value_from_4::<T>(digits, place, is_negative);
     }
-    value_of_fewer::<T>(digits, format, is_negative)
+    value_of_fewer::<T, CALLER>(digits, format, is_negative)
 }
 
 /// The number that the whole text stands for, for most texts of up to sixteen bytes, with fewer digits behind the point than there
@@ -262,7 +263,7 @@ pub fn value_if_fewer<T: Integer>(text: &[u8], format: &FixedFormat) -> Option<T
         return None;
     }
     let (is_negative, digits) = behind_minus::<T>(text);
-    value_of_fewer::<T>(digits, format, is_negative)
+    value_of_fewer::<T, { callers::OTHER }>(digits, format, is_negative)
 }
 
 /// The number that the whole text stands for, for most texts of two to fifteen digits around a point, with all places, which are
@@ -285,5 +286,5 @@ pub fn value_at_once<T: Integer>(text: &[u8], format: &FixedFormat) -> Option<T>
     if let Some(place) = point_before(digits, format, 3, format.places()) {
         return value_by_point::<T>(digits, place, is_negative);
     }
-    value_of_fewer::<T>(digits, format, is_negative)
+    value_of_fewer::<T, { callers::OTHER }>(digits, format, is_negative)
 }

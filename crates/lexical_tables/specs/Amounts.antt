@@ -2,9 +2,10 @@
 use Rattle.std.specs.Prelude.{◌≡◌, ◌≢◌, ◌+◌, ◌-◌, ◌<◌, ◌≤◌, ℕ, Bool, false, true, IsTrue, List, length, slice_index, Ok, Option, Some, None, ⊤}
 use Rattle.lexical_digits.specs.Value.{with_sign}
 use Rattle.lexical_util.specs.Number.{IntegerType, IsNumber}
+use Rattle.lexical_parse_integer.specs.Plain.{IsBehind, IsPlain}
 use Rattle.lexical_fixed.specs.Fixed.{Fixed}
 use Rattle.lexical_fixed.specs.Grammar.{complete_fixed}
-use Rattle.lexical_fixed.specs.Quick.{IsBare}
+use Rattle.lexical_fixed.specs.Quick.{leads_with_zero}
 use Rattle.lexical_fixed.specs.Validity.{fixed_fault}
 use Rattle.lexical_tables.specs.Cells.{ends_in_digit}
 use Rattle.lexical_tables.specs.Quotes.{quote}
@@ -13,9 +14,9 @@ use Rattle.lexical_tables.specs.Targets.{TargetView, has_bits}
 use Rattle.lexical_tables.specs.declared.dialect.Dialect.{Dialect}
 
 -- A description of amounts that are read at once: it has one to eleven places, or six at most if it takes fewer, its point is
--- no quote, and its integer part has no separator, asks for no sign and lets zeros stand in front.
+-- no quote, and its integer part has no separator and asks for no sign.
 pub record IsQuick (fixed : Fixed) : Type 0 where
-  pub bare : IsBare fixed.integer
+  pub plain : IsPlain fixed.integer
   pub some : 1 ≤ fixed.places
   pub few : fixed.places ≤ 11
   pub fewer : IsTrue fixed.takes_fewer → fixed.places ≤ 6
@@ -48,13 +49,19 @@ pub record IsAmountText (text : List ℕ) : Type 0 where
   pub ends : ends_in_digit text ≡ true
   pub unquoted : (k : ℕ) → k < length text → slice_index text k ≢ quote
 
+-- no zero leads behind a minus, if one stands there, that may not
+abbrev pub KeepsZeroRule : Fixed → Bool → List ℕ → Type 0
+KeepsZeroRule fixed is_negative text = (type : IntegerType) (digits : List ℕ)
+    → IsBehind is_negative type text digits → leads_with_zero fixed digits ≡ false
+
 -- A text stands for `units` units of the last place, with a minus where `is_negative`, in each type
 -- that has them. So it does under each description with this point and `places` places, all of them
--- or fewer as `takes_fewer` says, and with a bare integer part.
+-- or fewer as `takes_fewer` says, whose integer part is plain and whose rule on zeros it keeps.
 pub record IsAmount (point places : ℕ) (takes_fewer is_negative : Bool) (units : ℕ)
     (text : List ℕ) : Type 0 where
   pub stands : (fixed : Fixed) (type : IntegerType) → fixed_fault fixed ≡ None
-      → IsBare fixed.integer → fixed.point ≡ point → fixed.places ≡ places
+      → IsPlain fixed.integer → KeepsZeroRule fixed is_negative text
+      → fixed.point ≡ point → fixed.places ≡ places
       → fixed.takes_fewer ≡ takes_fewer → IsNumber type (with_sign is_negative units)
       → (IsTrue is_negative → type.is_signed ≡ true)
       → complete_fixed fixed type text ≡ Ok (with_sign is_negative units)

@@ -1,13 +1,17 @@
 //! Amounts that are read at once: digits around a point whose place is known by how many digits stand behind it.
 
-ghost use Rattle.std.specs.Prelude.{◌≡◌, ◌+◌, ◌-◌, ◌*◌, ◌<◌, ◌≤◌, ◌^◌, ◌++◌, ◌∷◌, [], IfSome, IsTrue, length, slice_index, take, true};
+ghost use Rattle.std.specs.Prelude.{◌≡◌, ◌==◌, ◌+◌, ◌-◌, ◌*◌, ◌&&◌, ◌<◌, ◌≤◌, ◌^◌, ◌++◌, ◌∷◌, [], IfSome, IsTrue, length, slice_index, slice_range, take, true};
+ghost use mir.Val.{bool_byte};
+ghost use Rattle.lexical_util.specs.Ascii.{minus};
 ghost use Rattle.lexical_digits.specs.WrittenNumbers.{WritesDecimal};
-ghost use Rattle.lexical_fixed.specs.Quick.{without, without_point};
+ghost use Rattle.lexical_fixed.specs.Quick.{begins_with_zero, without, without_point};
 ghost use Rattle.lexical_tables.specs.Amounts.{IsAmount, IsBehindPoint, IsQuick};
 
 use lexical_fields::number_to_12;
 use lexical_fixed::FixedFormat;
+use lexical_fixed::quick::begins_with_zero;
 use lexical_parse_integer::laws::grammar::front_digits;
+use lexical_parse_integer::quick::is_decimal;
 use std::simd::prelude::*;
 
 // Row n has the places of sixteen bytes without place n. The 128 makes the last lane 0.
@@ -135,6 +139,7 @@ pub fn units_of_front(
     requires room { size + 17 ≤ length text.now }
     ensures stands { IfSome result (λ found. IsAmount point places takes_fewer
         found.0 found.1 (take size text.now)) }
+    ensures minus { IfSome result (λ found. found.0 ≡ (slice_index text.now 0 == minus)) }
     ensures small { IfSome result (λ found. found.1 < 2 ^ 63) }
 {
     // The law by which the front has a digit.
@@ -157,17 +162,30 @@ pub fn units_of_front(
     Some((is_negative, number * power_of_ten(places - behind)))
 }
 
+/// Whether a text's first `size` bytes have a zero in front, or behind a minus, that may not stand there: another byte than the
+/// point follows it, and the integer part's format forbids leading zeros, as `has_rule` says. A byte has to follow them.
+///
+/// It is for a [`TableColumn`](crate::TableColumn) of one's own, beside [`units_of_front`], which reads such amounts.
+#[inline(always)]
+pub fn breaks_zero_rule(text: &[u8], size: usize, has_rule: bool, point: u8) -> bool
+    requires { size < length text.now }
+    ensures { result ≡ (has_rule && begins_with_zero point
+        (slice_range text.now (bool_byte (slice_index text.now 0 == minus)) size)) }
+{
+    if !has_rule || size == 0 {
+        return false;
+    }
+    begins_with_zero(&text[usize::from(text[0] == b'-')..size], point)
+}
+
 /// Whether amounts under a description are read by [`units_of_front`]: it has one to eleven places, or six at most if it takes
-/// fewer, its point is no quote, and its integer part has no separator, asks for no sign and lets zeros stand in front.
+/// fewer, its point is no quote, and its integer part is decimal, has no separator and asks for no sign. If that forbids leading
+/// zeros, [`breaks_zero_rule`] has to be asked too.
 #[inline]
 pub fn is_quick(format: &FixedFormat) -> bool
     ensures { IsTrue result → IsQuick format.now }
 {
-    let integer = format.integer();
-    if integer.digit_separator().is_some() || integer.required_mantissa_sign() {
-        return false;
-    }
-    if integer.no_integer_leading_zeros() || format.point() == b'"' {
+    if !is_decimal(format.integer()) || format.point() == b'"' {
         return false;
     }
     let most = if format.takes_fewer() { 6 } else { 11 };

@@ -8,7 +8,7 @@ ghost use Rattle.lexical_tables.specs.Codes.{IsCode};
 ghost use Rattle.lexical_tables.specs.Readings.{Number, fixed_answer};
 ghost use Rattle.lexical_tables.specs.Targets.{error_in, put_text, put_value, text_answer, text_fault, view_of_fixed, with_number, with_row_bit};
 
-use crate::amounts::{is_quick, units_of_front};
+use crate::amounts::{breaks_zero_rule, is_quick, units_of_front};
 use crate::codes::{AT_ONCE, PARSED};
 use crate::numbers::Numbers;
 use crate::targets::put_presence;
@@ -195,6 +195,10 @@ impl FixedTarget<'_> {
         ensures kept { result ≡ false → view_of_fixed self.new ≡ view_of_fixed self.old }
     {
         let format = &self.format;
+        let has_rule = format.integer().no_integer_leading_zeros();
+        if breaks_zero_rule(ahead, size, has_rule, format.point()) {
+            return false;
+        }
         let Some((is_negative, units)) = units_of_front(
             ahead,
             size,

@@ -49,7 +49,7 @@ mod text_targets;
 mod wide_rows;
 
 pub use alone::columns_alone;
-pub use amounts::{is_quick, units_of_front};
+pub use amounts::{breaks_zero_rule, is_quick, units_of_front};
 pub use answers::{CellFault, Table, TableError};
 pub use at_once::put_at_once;
 pub use bad_rows::{BadRow, KeptRow, Skipped};

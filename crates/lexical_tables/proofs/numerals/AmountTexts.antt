@@ -2,8 +2,8 @@
 use Rattle.std.proofs.Common.{◌≡◌, ◌≢◌, ◌∙◌, ℕ, zero, suc, ◌+◌, ◌-◌, ◌*◌, ◌^◌, ◌<◌, ◌≤◌, ◌==◌, ◌&&◌, Bool, true, false, cond, List, [], ◌∷◌, ◌++◌, length, length-drop, length-take-le, get_or, take, drop, is_some, Option, Some, None, Ok, refl, ap, sym, subst, arith, ◌⊎◌, inl, inr}
 use Rattle.std.proofs.lemmas.Bool.{and_right, cases_lt, eqb-true, false≢true}
 use Rattle.std.proofs.lemmas.Bool.Decides.{nat_tests}
-use Rattle.std.proofs.lemmas.List.{get_or-take}
-use Rattle.std.specs.Prelude.{if◌then◌else◌, IsNone, IsTrue}
+use Rattle.std.proofs.lemmas.List.{drop-take, get_or-take}
+use Rattle.std.specs.Prelude.{if◌then◌else◌, slice_range, IsNone, IsTrue}
 use mir.Val.{bool_byte}
 use Rattle.lexical_util.specs.Ascii.{minus}
 use Rattle.lexical_util.specs.Digit.{digit}
@@ -14,16 +14,15 @@ use Rattle.lexical_digits.specs.Words.{AreDigits, word_value}
 use Rattle.lexical_digits.specs.WrittenNumbers.{WritesDecimal}
 use Rattle.lexical_digits.proofs.WordsOfDigits.{raised_none}
 use Rattle.lexical_parse_integer.specs.Laws.{TellsDigits}
-use Rattle.lexical_parse_integer.specs.Plain.{IsBehind}
+use Rattle.lexical_parse_integer.specs.Plain.{IsBehind, IsPlain}
 use Rattle.lexical_fixed.specs.Fixed.{Fixed}
 use Rattle.lexical_fixed.specs.Grammar.{complete_fixed, is_negative}
-use Rattle.lexical_fixed.specs.Quick.{IsBare, IsInUnits, IsJoined, without, without_point}
+use Rattle.lexical_fixed.specs.Quick.{IsInUnits, IsJoined, begins_with_zero, leads_with_zero, without, without_point}
 use Rattle.lexical_fixed.specs.Validity.{fixed_fault}
 use Rattle.lexical_fixed.specs.declared.error.FixedFormatError.{FixedFormatError}
-use Rattle.lexical_fixed.proofs.Valid.{is_none}
-use Rattle.lexical_fixed.proofs.ShortNumbers.{minus_is, no_zero_leads, plain_of, stands_there}
+use Rattle.lexical_fixed.proofs.ShortNumbers.{minus_is, stands_there}
 use Rattle.lexical_fixed.proofs.NumbersInUnits.{units_read}
-use Rattle.lexical_tables.specs.Amounts.{IsAmount, IsAmountText, IsBehindPoint}
+use Rattle.lexical_tables.specs.Amounts.{IsAmount, IsAmountText, IsBehindPoint, KeepsZeroRule}
 use Rattle.lexical_tables.specs.Quotes.{quote}
 use Rattle.lexical_fields.proofs.FieldsInParts.{either}
 use Rattle.lexical_tables.proofs.numerals.AmountBytes.{without_is}
@@ -140,7 +139,7 @@ module _ (point places : ℕ) (takes : Bool) (digits : List ℕ) (behind number 
     abbrev units : ℕ
     units = number * 10 ^ (places - behind)
 
-    module _ (f : Fixed) (t : IntegerType) (b : Bool) (valid : fixed_fault f ≡ None) (bare : IsBare f.integer)
+    module _ (f : Fixed) (t : IntegerType) (b : Bool) (valid : fixed_fault f ≡ None) (plain : IsPlain f.integer) (rule : KeepsZeroRule f b (text_of b))
         (same_point : f.point ≡ point) (same_places : f.places ≡ places) (same_fewer : f.takes_fewer ≡ takes)
         (fits : IsNumber t (with_sign b units)) (signed : IsTrue b → t.is_signed ≡ true) where
       no_fault : (found : Option FixedFormatError) → found ≡ None → IsNone found
@@ -187,13 +186,13 @@ module _ (point places : ℕ) (takes : Bool) (digits : List ℕ) (behind number 
 
       read_units : complete_fixed f t (text_of b) ≡ Ok (with_sign b units)
       read_units =
-          units_read f t b (text_of b) digits (with_sign b units) (no_fault (fixed_fault f) valid) (plain_of f (no_fault (fixed_fault f) valid) bare)
-          (no_zero_leads f digits bare) (law f.integer t (text_of b)) (behind_sign b signed) (minus_here b signed) in_units
+          units_read f t b (text_of b) digits (with_sign b units) (no_fault (fixed_fault f) valid) plain
+          (rule t digits (behind_sign b signed)) (law f.integer t (text_of b)) (behind_sign b signed) (minus_here b signed) in_units
 
     -- a text of them stands for the units
     amount_of : (b : Bool) → IsAmount point places takes b units (text_of b)
     amount_of b = record {
-      stands = λ f t valid bare p n w fits signed. read_units f t b valid bare p n w fits signed;
+      stands = λ f t valid plain rule p n w fits signed. read_units f t b valid plain rule p n w fits signed;
       bytes = text_is b;
     }
 
@@ -244,3 +243,26 @@ front_amount point places takes b text held size count start behind number power
     (ap (λ ds. if b then minus ∷ ds else ds) (sym same) ∙ sym (split_sign b text size count start at whole some is))
     (subst (λ p. IsAmount point places takes b (number * p) (if b then minus ∷ digits else digits)) (sym scale)
     (amount_of point places takes digits behind number it (omega (arith, long, some)) writes law b))
+
+-- ---- the rule on zeros
+
+sliced : (b : Bool) (text : List ℕ) (size : ℕ) → slice_range text (bool_byte b) size ≡ drop (bool_byte b) (take size text)
+sliced false text size = let same : size - 0 ≡ size = omega arith in ap (λ n. take n text) same
+sliced true text zero = refl
+sliced true text (suc n) =
+    let back : suc n - 1 ≡ n = omega arith in
+    let next : 1 + n ≡ suc n = omega arith in
+    ap (λ k. take k (drop 1 text)) back ∙ sym (drop-take 1 n text) ∙ ap (λ k. drop 1 (take k text)) next
+
+-- one that isn't broken in what stands behind the minus is kept
+pub keeps_rule : (f : Fixed) (has_rule : Bool) (point : ℕ) (b : Bool) (text : List ℕ) (size : ℕ) → has_rule ≡ f.integer.no_integer_leading_zeros → point ≡ f.point → b ≡ (get_or text 0 0 == 45)
+    → (has_rule && begins_with_zero point (slice_range text (bool_byte (get_or text 0 0 == 45)) size)) ≡ false → KeepsZeroRule f b (take size text)
+keeps_rule f has_rule point b text size same_rule same_point is kept = λ type digits behind.
+    let held : slice_range text (bool_byte b) size ≡ digits = sliced b text size ∙ held_behind b type digits behind in
+    ap (λ ds. leads_with_zero f ds) (sym held) ∙ ap (λ r. r && begins_with_zero f.point (slice_range text (bool_byte b) size)) (sym same_rule)
+    ∙ ap (λ n. has_rule && begins_with_zero n (slice_range text (bool_byte b) size)) (sym same_point)
+    ∙ ap (λ m. has_rule && begins_with_zero point (slice_range text (bool_byte m) size)) is ∙ kept
+  where
+    held_behind : (b : Bool) (type : IntegerType) (digits : List ℕ) → IsBehind b type (take size text) digits → drop (bool_byte b) (take size text) ≡ digits
+    held_behind false type digits same = same
+    held_behind true type digits same = ap (drop 1) same.0

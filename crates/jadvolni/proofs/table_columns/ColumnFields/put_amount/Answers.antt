@@ -8,6 +8,7 @@ use Rattle.lexical_fields.specs.Places.{in_text}
 use Rattle.lexical_parse_integer.specs.Answer.{view_of}
 use Rattle.lexical_fixed.specs.Fixed.{Fixed}
 use Rattle.lexical_fixed.specs.Grammar.{complete_fixed}
+use Rattle.lexical_tables.proofs.numerals.AmountTexts.{keeps_rule}
 use Rattle.lexical_tables.specs.Readings.{Number, answer_by, fixed_answer}
 use Rattle.lexical_tables.specs.Targets.{keeps_text}
 use Rattle.jadvolni.specs.Arrays.{type_named}
@@ -42,7 +43,7 @@ returns c =
     let type_is = sym c.number_type.ensures ∙ c.in-Some.is in
     let quick = quick_there column c.in-Some.numbers type_is above c.requires.amounts in
     let numbers : keeps_text (target_of column) ≡ false = no_texts_there column c.in-Some.numbers type_is in
-    let point = c.point.ensures ∙ ap (λ (it : Fixed). it.point) c.standard-format.ensures in
+    let point = c.point-2.ensures ∙ ap (λ (it : Fixed). it.point) c.standard-format.ensures in
     let places = c.places.ensures ∙ ap (λ (it : Fixed). it.places) c.standard-format.ensures in
     let fewer = c.takes_fewer.ensures ∙ ap (λ (it : Fixed). it.takes_fewer) c.standard-format.ensures in
     let amount = c.in-Some-units_of_front.ensures.stands in
@@ -50,7 +51,9 @@ returns c =
     let number = with_sign c.in-Some-units_of_front.is_negative c.in-Some-units_of_front.units in
     let stands : IsTrue c.put_coded.result
     → complete_fixed format (type_named c.in-Some.numbers) (take c.args.size c.args.ahead.now) ≡ Ok number = λ did. amount.stands format (type_named c.in-Some.numbers)
-    (valid_fixed column (c.args.row + 1) c.in-Some.numbers type_is above c.requires.usable) quick.bare
+    (valid_fixed column (c.args.row + 1) c.in-Some.numbers type_is above c.requires.usable) quick.plain
+    (keeps_rule format c.has_zero_rule-has_rule.result c.point.result c.in-Some-units_of_front.is_negative c.args.ahead.now c.args.size
+    c.has_zero_rule-has_rule.ensures (c.point.ensures ∙ ap (λ (it : Fixed). it.point) c.standard-format.ensures) c.in-Some-units_of_front.ensures.minus (sym c.breaks_zero_rule.ensures ∙ c.if-breaks_zero_rule.false))
     (sym point) (sym places) (sym fewer) (put.fits did) (put.minus did) in
     let same : (text : FieldView) (type : IntegerType) → view_of Number (fixed_answer format type text)
     ≡ answer_by (reading_of column.description type) text = λ text type. fixed_point_answer column.description type text above in
