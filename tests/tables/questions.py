@@ -27,7 +27,7 @@ FIXED_FORMS = [*FIXED.values(), Fixed(EUROS, ord(",")), Fixed(EUROS, ord(","), t
                # Around the most places that are read in place: eleven, or six where fewer may stand.
                *(Fixed(places=places, takes_fewer=False) for places in (6, 7, 8, 9, 11, 12)),
                *(Fixed(places=places) for places in (6, 7, 9)),
-               Fixed(JSON, places=8, takes_fewer=False)]
+               Fixed(JSON), Fixed(JSON, places=8, takes_fewer=False)]
 # Those without places are integers, and need a radix.
 FIXED_TARGETS = [Target(kind, may_miss=may_miss, fixed=fixed) for kind in KINDS
                  for fixed in FIXED_FORMS if fixed.places > 0 for may_miss in (False, True)]
