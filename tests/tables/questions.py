@@ -24,7 +24,7 @@ TARGETS = [Target(kind, form, may_miss)
 EUROS = replace(STANDARD, digit_separator=ord("."), integer_internal_digit_separator=True)
 FIXED_FORMS = [*FIXED.values(), Fixed(EUROS, ord(",")), Fixed(EUROS, ord(","), takes_fewer=False),
                Fixed(point=ord("x"), places=1), Fixed(point=0xff, places=18),
-               # Around the most places that are read in place: eleven, or six where fewer may stand.
+               # Around the most places read in place: eleven, or six where fewer may stand.
                *(Fixed(places=places, takes_fewer=False) for places in (6, 7, 8, 9, 11, 12)),
                *(Fixed(places=places) for places in (6, 7, 9)),
                Fixed(JSON), Fixed(JSON, places=8, takes_fewer=False)]
