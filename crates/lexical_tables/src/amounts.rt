@@ -172,10 +172,11 @@ pub fn breaks_zero_rule(text: &[u8], size: usize, has_rule: bool, point: u8) -> 
     ensures { result ≡ (has_rule && begins_with_zero point
         (slice_range text.now (bool_byte (slice_index text.now 0 == minus)) size)) }
 {
-    if !has_rule || size == 0 {
+    if !has_rule {
         return false;
     }
-    begins_with_zero(&text[usize::from(text[0] == b'-')..size], point)
+    let start = usize::from(text[0] == b'-');
+    begins_with_zero(&text[start..size.max(start)], point)
 }
 
 /// Whether amounts under a description are read by [`units_of_front`]: it has one to eleven places, or six at most if it takes
