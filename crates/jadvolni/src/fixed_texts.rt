@@ -17,7 +17,7 @@ use crate::slot::Slot;
 use lexical_fixed::FixedFormatError;
 use lexical_fixed::quick::{
     callers, complete_if_long, complete_if_not_short, front_at_once, partial_if_left,
-    value_if_common, value_if_fewer,
+    value_if_fewer, value_if_short,
 };
 use lexical_util::num::Integer;
 use lexical_util::result::Result;
@@ -82,7 +82,7 @@ fn fixed_any<T: Integer, S: Slot<T>>(text: &[u8], fields: &FixedFields, value: &
     }
 }
 
-// The whole text, under a valid description whose integer part is decimal, for a text without all places or one that isn't short.
+// The whole text, under a valid description whose integer part is decimal, for a text that isn't read in place.
 #[inline(never)]
 fn fixed_decimal_left<T: Integer, S: Slot<T>>(
     text: &[u8],
@@ -102,7 +102,7 @@ fn fixed_decimal_left<T: Integer, S: Slot<T>>(
     )
 }
 
-// The whole text, under a description whose integer part is decimal. A short one with all places is read in place.
+// The whole text, under a description whose integer part is decimal. Most short ones are read in place.
 #[inline(never)]
 fn fixed_decimal<T: Integer, S: Slot<T>>(
     text: &[u8],
@@ -117,7 +117,7 @@ fn fixed_decimal<T: Integer, S: Slot<T>>(
     if !fields.is_decimal() {
         return fixed_any::<T, S>(text, fields, value);
     }
-    match value_if_common::<T, { callers::DECIMAL }>(text, &fields.decimal()) {
+    match value_if_short::<T, { callers::TEXT }>(text, &fields.decimal()) {
         Some(number) => store(Ok(number), text.len(), value),
         None => fixed_decimal_left::<T, S>(text, fields, value),
     }
@@ -150,21 +150,21 @@ fn fixed_fewer<T: Integer, S: Slot<T>>(text: &[u8], fields: &FixedFields, value:
     }
 }
 
-// Whether a text may be read with fewer places, and isn't so short that it was tried: behind a sign it has up to sixteen bytes.
+// Whether a text may lack places, and is too long to have been read in place: behind a sign it has up to sixteen bytes.
 #[inline(always)]
-fn may_lack_places<T: Integer>(text: &[u8], fields: &FixedFields) -> bool {
-    fields.takes_fewer != 0 && text.len() <= 17 && (T::BITS > 64 || text.len() > 8)
+fn may_lack_places(text: &[u8], fields: &FixedFields) -> bool {
+    fields.takes_fewer != 0 && text.len() > 8 && text.len() <= 17
 }
 
-// The whole text, under a plain description, for a text without all places or one that isn't short. Out of line, so that a short
-// text pays for no choice.
+// The whole text, under a plain description, for a text that isn't read in place. Out of line, so that a short text pays for no
+// choice.
 #[inline(never)]
 fn fixed_plain<T: Integer, S: Slot<T>>(text: &[u8], fields: &FixedFields, value: &mut S) -> Outcome
     requires { IsPlainFixed fields.now }
     ensures { effect result (S.number value.new)
         ≡ fixed_call fields.now T.TYPE text.now (S.number value.old) }
 {
-    if may_lack_places::<T>(text, fields) {
+    if may_lack_places(text, fields) {
         return fixed_fewer::<T, S>(text, fields, value);
     }
     fixed_long::<T, S>(text, fields, value)
@@ -177,7 +177,7 @@ pub fn fixed<T: Integer, S: Slot<T>>(text: &[u8], fields: &FixedFields, value: &
         ≡ fixed_call fields.now T.TYPE text.now (S.number value.old) }
 {
     if fields.is_plain() {
-        return match value_if_common::<T, { callers::KNOWN }>(text, &fields.standard()) {
+        return match value_if_short::<T, { callers::KNOWN }>(text, &fields.standard()) {
             Some(number) => store(Ok(number), text.len(), value),
             None => fixed_plain::<T, S>(text, fields, value),
         };

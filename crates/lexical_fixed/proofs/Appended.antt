@@ -1,7 +1,7 @@
 -- Several digits at a time behind a number.
 use Rattle.std.proofs.Common.{◌≡◌, ℕ, ◌+◌, ◌-◌, ◌*◌, ◌^◌, ◌≤◌, Bool, false, List, [], ◌∷◌, ◌++◌, length, length-append, take, drop, Option, Some, None, refl, sym, ap, subst, ◌∙◌, arith}
 use Rattle.std.proofs.Math.IntN.{ℤ, pos}
-use Rattle.std.proofs.Math.Seq.{take-add, take-length}
+use Rattle.std.proofs.Math.Seq.{take-add}
 use Rattle.std.specs.Prelude.{Ok, slice_range}
 use Rattle.std.proofs.lemmas.List.{length-drop, length-take-le}
 use Rattle.std.proofs.lemmas.Nat.{pow-add}
@@ -88,9 +88,6 @@ appended_more t b v ds k count now part next s within some r stands is =
       worth = told.0 ∙ value;
       fits = λ l. ap (is_number t) told.0 ∙ told.1;
     }
-
-pub appended_all : (t : IntegerType) (b : Bool) (v : ℤ) (ds : List ℕ) (k : ℕ) (now : ℤ) → k ≡ length ds → IsAppended t b v (take k ds) now → IsAppended t b v ds now
-appended_all t b v ds k now end r = subst (λ (bs : List ℕ). IsAppended t b v bs now) (ap (λ n. take n ds) end ∙ take-length ds) r
 
 -- where all digits fit, none is at fault
 pub appended_unfaulted : (t : IntegerType) (b : Bool) (v : ℤ) (ds : List ℕ) (place : ℕ) (now : ℤ) → HasSign b v → IsAppended t b v ds now → digits_fault t b v ds place ≡ None

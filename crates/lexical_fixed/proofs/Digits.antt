@@ -80,12 +80,6 @@ with_digits-sign b v ds s =
     let n = size_of b v s in
     sign_held b (with_digits b v ds) (n.size * 10 ^ length ds + word_value 10 ds) (ap (λ z. with_digits b z ds) n.is ∙ with_digits_is b n.size ds)
 
--- a step leaves the sign
-pub step-sign : (b : Bool) (v : ℤ) (d : ℕ) → HasSign b v → HasSign b (mul_add b v (pos 10) (pos d))
-step-sign b v d s =
-    let n = size_of b v s in
-    sign_held b (mul_add b v (pos 10) (pos d)) (n.size * 10 + d) (ap (λ z. mul_add b z (pos 10) (pos d)) n.is ∙ with_sign-step b n.size 10 d)
-
 -- ---- a row of digits
 
 pub digit_among : (ds : List ℕ) (k : ℕ) → AreDigits 10 ds → k < length ds → (48 ≤ get_or ds k 0) × (get_or ds k 0 < 58)

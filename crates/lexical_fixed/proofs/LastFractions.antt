@@ -1,23 +1,14 @@
 -- A fraction that goes to the text's end, by the number that its digits stand for: for the quick way.
-use Rattle.std.proofs.Common.{◌≡◌, ℕ, zero, suc, ◌+◌, ◌-◌, ◌≤◌, ◌<◌, Bool, true, false, List, [], ◌∷◌, length, map, Some, None, is_some, refl, sym, ap, ◌∙◌, arith}
+use Rattle.std.proofs.Common.{◌≡◌, ℕ, ◌-◌, Bool, true, false, List, [], ◌∷◌, map, Some, is_some, refl, sym, ap, ◌∙◌, arith}
 use Rattle.std.proofs.Math.IntN.{ℤ, pos}
 use Rattle.std.proofs.Math.Seq.{take-length}
-use Rattle.std.proofs.lemmas.Bool.Decides.{nat_tests}
-use Rattle.std.proofs.lemmas.List.{length-drop}
-use Rattle.std.proofs.lemmas.Option.{slice_get_past}
-use Rattle.std.specs.Prelude.{◌==◌, slice_get, slice_range}
 use Rattle.lexical_util.specs.Digit.{digit}
 use Rattle.lexical_util.specs.Number.{IntegerType}
 use Rattle.lexical_digits.specs.Value.{positional_value}
 use Rattle.lexical_digits.specs.Words.{AreDigits}
 use Rattle.lexical_digits.specs.WrittenNumbers.{StandsFor}
 use Rattle.lexical_digits.proofs.AsciiDigits.{digit_from, digit_to}
-use Rattle.lexical_digits.proofs.WordsInFront.{rest_is}
-use Rattle.lexical_parse_integer.specs.Runs.{are_same}
-use Rattle.lexical_fixed.specs.Fixed.{Fixed}
-use Rattle.lexical_fixed.specs.Fraction.{front_end}
-use Rattle.lexical_fixed.specs.Quick.{IsFraction, IsJoined}
-use Rattle.lexical_fixed.proofs.QuickFronts.{no_point}
+use Rattle.lexical_fixed.specs.Quick.{IsJoined}
 
 -- bytes that have values are digits, worth these
 pub record HaveValues (bytes values : List ℕ) : Type 0 where
@@ -55,21 +46,3 @@ joined_digits t bytes number s =
       digits = have.digits;
       worth = number_is ∙ ap (positional_value 10) (sym have.worth);
     }
-
--- at the text's end there is no fraction
-pub none_at_end : (f : Fixed) (text : List ℕ) (place : ℕ) → place ≡ length text → IsFraction f text place 0 0
-unfolding are_same
-none_at_end f text place end =
-    let none : slice_get text place ≡ None = slice_get_past text place (omega arith) in
-    no_point f text place (rw none refl)
-
-pub ends_at_end : (f : Fixed) (text : List ℕ) (place : ℕ) → place ≡ length text → front_end f text place ≡ length text
-ends_at_end f text place end = (none_at_end f text place end).ends ∙ end
-
--- a fraction up to the text's end ends the front there
-pub last_ends : (f : Fixed) (text : List ℕ) (place number count : ℕ) → IsFraction f text place number count → 1 ≤ count → place < length text → count ≡ length (slice_range text (place + 1) (length text)) → front_end f text place ≡ length text
-last_ends f text place number zero x more within size = absurd (omega arith)
-last_ends f text place number (suc n) x more within size =
-    let some : (suc n == 0) ≡ false = grind (arith, nat_tests) in
-    let rest : length (slice_range text (place + 1) (length text)) ≡ length text - (place + 1) = ap (λ (bytes : List ℕ). length bytes) (rest_is text (place + 1)) ∙ length-drop (place + 1) text in
-    x.ends ∙ rw some (omega (arith, size, rest, within))

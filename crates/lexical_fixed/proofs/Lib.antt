@@ -19,6 +19,7 @@ mod QuickDigits
 mod QuickFronts
 mod QuickParts
 pub mod ShortNumbers
+mod ShortUnits
 mod Units
 pub mod Valid
 mod WholeByFront

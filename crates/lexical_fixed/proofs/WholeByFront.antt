@@ -105,6 +105,3 @@ complete_by_front f t text v told = by_part (integer_part f.integer t text) told
     by_part : (part : Result (ℤ × ℕ) Error) → partial_by f t text part ≡ Ok (v, length text) → complete_by f t text part ≡ Ok v
     by_part (Ok (whole, place)) told = whole_by_front f t text whole v place told
     by_part (Err error) told = absurd (cc)
-
-pub complete_at_end : (f : Fixed) (t : IntegerType) (text : List ℕ) (v : ℤ) (k : ℕ) → partial_fixed f t text ≡ Ok (v, k) → k ≡ length text → Ok v ≡ complete_fixed f t text
-complete_at_end f t text v k told end = sym (complete_by_front f t text v (told ∙ ap (λ (n : ℕ). Ok (v, n)) end))

@@ -1,11 +1,10 @@
 -- What the quick way finds out about a text, before it has a number.
-use Rattle.std.specs.Prelude.{◌≡◌, ◌+◌, ◌-◌, ◌*◌, ◌^◌, pos, ◌<◌, ◌≤◌, ℕ, ℤ, ◌==◌, ◌&&◌, Bool, true, false, not, nat_le, if◌then◌else◌, List, ◌++◌, drop, length, slice_get, slice_index, take, None, Some}
+use Rattle.std.specs.Prelude.{◌≡◌, ◌+◌, ◌-◌, ◌*◌, ◌^◌, ◌<◌, ◌≤◌, ℕ, ℤ, ◌==◌, ◌&&◌, Bool, true, false, not, nat_le, if◌then◌else◌, List, ◌++◌, drop, length, slice_get, slice_index, take, None, Some}
 use Rattle.lexical_util.specs.Ascii.{digit_zero}
 use Rattle.lexical_digits.specs.Value.{with_sign}
 use Rattle.lexical_digits.specs.Words.{AreDigits, word_value}
 use Rattle.lexical_util.specs.Format.{Format}
-use Rattle.lexical_digits.specs.WrittenNumbers.{StandsFor}
-use Rattle.lexical_util.specs.Number.{IntegerType, IsNumber, is_number, mul_add}
+use Rattle.lexical_util.specs.Number.{IntegerType, IsNumber}
 use Rattle.lexical_parse_integer.specs.Runs.{are_same}
 use Rattle.lexical_fixed.specs.Fixed.{Fixed}
 use Rattle.lexical_fixed.specs.Fraction.{fraction, fraction_length, front_end, is_cut}
@@ -63,39 +62,11 @@ pub record IsValueWithout (type : IntegerType) (is_negative : Bool) (place : ℕ
   pub worth : value ≡ with_sign is_negative number
   pub fits : IsNumber type value
 
--- The point stands in up to sixteen bytes, with at least one byte before it and `count` behind it,
--- which are one to seven: as many as there are places, or fewer.
-pub record IsLastPoint (fixed : Fixed) (bytes : List ℕ) (place count : ℕ) : Type 0 where
-  pub few : length bytes ≤ 16
-  pub short : count ≤ 7
-  pub before : 1 ≤ place
+-- The point stands in bytes with `count` of them behind it, at least one, and at least one before it.
+pub record HasPoint (fixed : Fixed) (bytes : List ℕ) (count : ℕ) : Type 0 where
   pub behind : 1 ≤ count
-  pub room : count ≤ fixed.places
-  pub size : length bytes ≡ place + 1 + count
-  pub point : are_same (Some fixed.point) (slice_get bytes place) ≡ true
-
--- A value is that of digits with fewer behind the point than there are places, which the
--- description allows, and zeros for the missing ones.
-pub record IsFilled (fixed : Fixed) (type : IntegerType) (is_negative : Bool) (bytes : List ℕ)
-    (value : ℤ) : Type 0 where
-  pub place : ℕ
-  pub count : ℕ
-  pub written : ℤ
-  pub takes : fixed.takes_fewer ≡ true
-  pub point : IsLastPoint fixed bytes place count
-  pub digits : IsValueWithout type is_negative place bytes written
-  pub filled : value ≡ mul_add is_negative written (pos (10 ^ (fixed.places - count))) (pos 0)
-  pub fits : is_number type value ≡ true
-
--- A value is that of digits without a point, as the description takes them, and zeros for all places.
-pub record IsFilledWhole (fixed : Fixed) (type : IntegerType) (is_negative : Bool)
-    (bytes : List ℕ) (value : ℤ) : Type 0 where
-  pub written : ℤ
-  pub takes : fixed.takes_fewer ≡ true
-  pub some : 1 ≤ length bytes
-  pub stands : StandsFor type 10 is_negative bytes written
-  pub filled : value ≡ mul_add is_negative written (pos (10 ^ fixed.places)) (pos 0)
-  pub fits : is_number type value ≡ true
+  pub before : count + 2 ≤ length bytes
+  pub point : are_same (Some fixed.point) (slice_get bytes (length bytes - 1 - count)) ≡ true
 
 -- A value is the number of the digits around a point, or of digits alone, in units of the last place.
 pub record IsInUnits (fixed : Fixed) (type : IntegerType) (is_negative : Bool) (bytes : List ℕ)

@@ -7,7 +7,7 @@ ghost use Rattle.lexical_fixed.specs.Validity.{fixed_fault};
 use crate::error::FixedError;
 use crate::format::FixedFormat;
 use crate::parse::{complete_if_not_short, partial_if_left};
-use crate::quick::{front_at_once, value_if_short};
+use crate::quick::{callers, front_at_once, value_if_short};
 use lexical_util::num::Integer;
 use lexical_util::result::Result;
 
@@ -40,7 +40,7 @@ pub trait ParseFixed: Integer {
 impl<T: Integer> ParseFixed for T {
     #[inline(always)]
     fn parse_fixed(bytes: &[u8], format: &FixedFormat) -> Result<T> {
-        match value_if_short::<T>(bytes, format) {
+        match value_if_short::<T, { callers::TEXT }>(bytes, format) {
             Some(value) => Ok(value),
             None => read_not_short::<T>(bytes, format),
         }

@@ -22,7 +22,7 @@ static POWERS: [u32; 10] = [
 
 // A power of ten.
 #[inline(always)]
-fn power_of_ten(exponent: usize) -> u32
+pub(crate) fn power_of_ten(exponent: usize) -> u32
     requires { exponent < 10 }
     ensures { result ≡ 10 ^ exponent }
 {

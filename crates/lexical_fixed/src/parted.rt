@@ -10,8 +10,7 @@ ghost use Rattle.lexical_fixed.specs.Validity.{fixed_fault};
 use crate::append::append_digits;
 use crate::format::FixedFormat;
 use crate::fraction::read_zeros;
-use crate::quick::callers;
-use crate::short::{behind_minus, leads_with_zero, value_of_fewer};
+use crate::short::{behind_minus, leads_with_zero, value_filled};
 use lexical_digits::fronts::value_of_digits;
 use lexical_parse_integer::laws::grammar::front_digits;
 use lexical_util::num::Integer;
@@ -122,7 +121,7 @@ pub(crate) fn value_if_decimal<T: Integer>(text: &[u8], format: &FixedFormat) ->
     if leads_with_zero(digits, format) {
         return None;
     }
-    match value_of_fewer::<T, { callers::OTHER }>(digits, format, is_negative) {
+    match value_filled::<T>(digits, format, is_negative) {
         Some(units) => Some(units),
         None => whole_at_once::<T>(text, format),
     }

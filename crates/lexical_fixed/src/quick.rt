@@ -17,24 +17,22 @@ use crate::format::FixedFormat;
 use crate::fraction::stands_at;
 use crate::parse::is_negative;
 pub use crate::parse::{complete_if_long, complete_if_not_short, partial_if_left};
-pub use crate::short::{
-    begins_with_zero, value_at_once, value_if_common, value_if_fewer, value_if_short,
-};
+pub use crate::short::{begins_with_zero, value_if_fewer, value_if_short};
 use lexical_digits::fronts::number_in_front;
 use lexical_parse_integer::laws::grammar::front_digits;
 use lexical_parse_integer::quick::front_if_plain;
 use lexical_parse_integer::stops_after_digit;
 use lexical_util::num::Integer;
 
-/// Who calls [`value_if_common`]. Each caller has a function of its own, which the compiler then inlines: of a large one with
+/// Who calls [`value_if_short`]. Each caller has a function of its own, which the compiler then inlines: of a large one with
 /// several callers it makes a call.
 pub mod callers {
-    /// A caller of whose description the compiler knows the integer part.
-    pub const KNOWN: u8 = 0;
-    /// A caller under any decimal integer part.
-    pub const DECIMAL: u8 = 1;
-    /// Any other.
-    pub const OTHER: u8 = 2;
+    /// One text under any description.
+    pub const TEXT: u8 = 0;
+    /// One text under a description that the compiler knows in part.
+    pub const KNOWN: u8 = 1;
+    /// A cell of a table.
+    pub const CELL: u8 = 2;
 }
 
 // The number of the fraction and how many digits it has, if these are one to seven. Both are 0

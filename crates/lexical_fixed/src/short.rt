@@ -1,15 +1,14 @@
-// The shortest ways: a whole text of some digits and a point, as most amounts are, with all places behind it, or fewer where the
-// description takes that. `None` says nothing of the text.
-ghost use Rattle.std.specs.Prelude.{◌≡◌, ◌+◌, ◌<◌, ◌≤◌, ◌⊎◌, IfSome, IsNone, IsTrue, Ok, length};
+// The short way: a whole text of up to sixteen bytes, digits around a point or alone. `None` says nothing of the text.
+ghost use Rattle.std.specs.Prelude.{◌≡◌, ◌≢◌, ◌+◌, ◌-◌, ◌<◌, ◌≤◌, IfSome, IsNone, IsTrue, Ok, length, slice_index, take};
 ghost use Rattle.lexical_parse_integer.specs.Plain.{IsBehind};
 ghost use Rattle.lexical_fixed.specs.Grammar.{complete_fixed, is_negative};
-ghost use Rattle.lexical_fixed.specs.Quick.{IsBare, IsFilled, IsFilledWhole, IsLastPoint, IsValueWithout, begins_with_zero, leads_with_zero};
+ghost use Rattle.lexical_fixed.specs.Parted.{IsParted};
+ghost use Rattle.lexical_fixed.specs.Quick.{HasPoint, IsBare, IsInUnits, IsJoined, IsValueWithout, begins_with_zero, leads_with_zero, without, without_point};
 ghost use Rattle.lexical_fixed.specs.Validity.{fixed_fault};
 
-use crate::append::append_number;
+use crate::append::{append_number, power_of_ten};
 use crate::format::FixedFormat;
 use crate::joined::{number_without, numbers_without};
-use crate::quick::callers;
 use lexical_digits::values::{value_of_parts, value_to_8, value_to_16};
 use lexical_parse_integer::laws::grammar::front_digits;
 use lexical_parse_integer::quick::is_decimal;
@@ -30,26 +29,6 @@ pub(crate) fn leads_with_zero(digits: &[u8], format: &FixedFormat) -> bool
     ensures { result ≡ leads_with_zero format.now digits.now }
 {
     format.integer().no_integer_leading_zeros() && begins_with_zero(digits, format.point())
-}
-
-// The place of the point in `least` to sixteen bytes, if `count` bytes stand behind it, which are
-// one to seven, and at least one before it.
-#[inline(always)]
-fn point_before(digits: &[u8], format: &FixedFormat, least: usize, count: usize) -> Option<usize>
-    requires least { 3 ≤ least }
-    requires count { count ≤ format.now.places }
-    ensures point { IfSome result (λ place. IsLastPoint format.now digits.now place count) }
-    ensures many { IfSome result (λ place. least ≤ length digits.now) }
-{
-    let size = digits.len();
-    if size < least || size > 16 || count == 0 || count > size - 2 || count > 7 {
-        return None;
-    }
-    let place = size - 1 - count;
-    if digits[place] != format.point() {
-        return None;
-    }
-    Some(place)
 }
 
 // What stands behind a minus that is a sign, and whether there is one.
@@ -103,18 +82,6 @@ fn value_from_4<T: Integer>(digits: &[u8], place: usize, is_negative: bool) -> O
     }
 }
 
-// The value of the digits before and behind the middle one of three bytes. Not inlined always: it counts as a reader of sixteen
-// digits, and with one more of these `value_if_fewer` would be too large for that.
-#[inline]
-fn value_of_3<T: Integer>(digits: &[u8], is_negative: bool) -> Option<T>
-    requires three { length digits.now ≡ 3 }
-    requires minus { IsTrue is_negative → IsTrue T.TYPE.is_signed }
-    ensures { IfSome result
-        (λ value. IsValueWithout T.TYPE is_negative 1 digits.now (T.number value)) }
-{
-    value_to_16::<T>(&[digits[0], digits[2]], is_negative)
-}
-
 // The value of the digits of four to sixteen bytes but for the byte at `place`, which is among the
 // last eight.
 #[inline(always)]
@@ -133,123 +100,150 @@ pub(crate) fn value_around<T: Integer>(digits: &[u8], place: usize, is_negative:
     value_from_9::<T>(digits, place, is_negative)
 }
 
-// The value of the digits of three to sixteen bytes but for the byte at `place`, which is among the
-// last eight and isn't the last.
+// The place of the point, if `count` bytes stand behind it, at least one, and at least one before it.
 #[inline(always)]
-fn value_by_point<T: Integer>(digits: &[u8], place: usize, is_negative: bool) -> Option<T>
-    requires some { 3 ≤ length digits.now }
-    requires few { length digits.now ≤ 16 }
-    requires before { 1 ≤ place }
-    requires behind { length digits.now ≤ place + 8 }
-    requires within { place + 1 < length digits.now }
-    requires minus { IsTrue is_negative → IsTrue T.TYPE.is_signed }
-    ensures { IfSome result
-        (λ value. IsValueWithout T.TYPE is_negative place digits.now (T.number value)) }
+fn point_before(digits: &[u8], format: &FixedFormat, count: usize) -> Option<usize>
+    requires { 2 ≤ length digits.now }
+    ensures point { IfSome result (λ place. HasPoint format.now digits.now count) }
+    ensures place { IfSome result (λ place. place ≡ length digits.now - 1 - count) }
 {
-    if digits.len() == 3 {
-        return value_of_3::<T>(digits, is_negative);
+    let size = digits.len();
+    if count == 0 || count > size - 2 {
+        return None;
     }
-    value_around::<T>(digits, place, is_negative)
+    let place = size - 1 - count;
+    if digits[place] != format.point() {
+        return None;
+    }
+    Some(place)
 }
 
-// The number in units of digits with fewer behind the point than there are places, or without a point, if the description takes
-// that.
+// How many bytes stand behind the point, if fewer than there are places may, which are nine at most: 0 is a text without a point.
+// It doesn't look for a point with all places behind it.
 #[inline(always)]
-pub(crate) fn value_of_fewer<T: Integer, const CALLER: u8>(
+fn count_behind(digits: &[u8], format: &FixedFormat) -> Option<usize>
+    ensures parted { IfSome result (λ count. IsParted format.now digits.now count) }
+    ensures few { IfSome result (λ count. format.now.places ≤ 9) }
+{
+    let places = format.places();
+    if !format.takes_fewer() || digits.is_empty() || places > 9 {
+        return None;
+    }
+    let mut count = 1;
+    while count < places && count + 2 <= digits.len() {
+        if digits[digits.len() - 1 - count] == format.point() {
+            return Some(count);
+        }
+        count += 1;
+    }
+    Some(0)
+}
+
+// The number of the digits before and behind the middle one of three bytes. By itself, since a call of a reader of more digits would
+// cost each text of `value_if_short` registers.
+#[inline(always)]
+fn number_of_3(digits: &[u8]) -> Option<u32>
+    requires three { length digits.now ≡ 3 }
+    ensures { IfSome result (IsJoined (without 1 digits.now)) }
+{
+    let (first, last) = (digits[0], digits[2]);
+    if !first.is_ascii_digit() || !last.is_ascii_digit() {
+        return None;
+    }
+    Some(10 * (first - b'0') as u32 + (last - b'0') as u32)
+}
+
+// The number of one to eight bytes: digits around the point, which has `count` behind it, or digits alone, if that is 0.
+#[inline(always)]
+fn number_of_few(digits: &[u8], count: usize) -> Option<u32>
+    requires some { 1 ≤ length digits.now }
+    requires few { length digits.now ≤ 8 }
+    requires before { 1 ≤ count → count + 2 ≤ length digits.now }
+    ensures joined { IfSome result (IsJoined (without_point count digits.now)) }
+    ensures small { IfSome result (λ number. number < 100000000) }
+{
+    if count == 0 {
+        return value_to_16::<u32>(digits, false);
+    }
+    if digits.len() == 3 {
+        return number_of_3(digits);
+    }
+    number_without(digits, digits.len() - 1 - count)
+}
+
+// The number in units of up to eight bytes, with all places, or fewer if the description takes that.
+#[inline(always)]
+fn value_of_few<T: Integer, const CALLER: u8>(
+    digits: &[u8],
+    format: &FixedFormat,
+    is_negative: bool,
+) -> Option<T>
+    requires few { length digits.now ≤ 8 }
+    requires minus { IsTrue is_negative → IsTrue T.TYPE.is_signed }
+    ensures { IfSome result
+        (λ value. IsInUnits format.now T.TYPE is_negative digits.now (T.number value)) }
+{
+    let places = format.places();
+    if digits.len() >= 4 {
+        if let Some(place) = point_before(digits, format, places) {
+            let number = number_without(digits, place)?;
+            return value_to_8::<T>(number, is_negative);
+        }
+    }
+    let count = count_behind(digits, format)?;
+    let number = number_of_few(digits, count)?;
+    value_of_parts::<T>(number, 0, power_of_ten(places - count), is_negative)
+}
+
+// The number in units of nine to sixteen bytes with all places, which are seven at most.
+#[inline(always)]
+fn value_of_many<T: Integer, const CALLER: u8>(
+    digits: &[u8],
+    format: &FixedFormat,
+    is_negative: bool,
+) -> Option<T>
+    requires some { 9 ≤ length digits.now }
+    requires minus { IsTrue is_negative → IsTrue T.TYPE.is_signed }
+    ensures { IfSome result
+        (λ value. IsInUnits format.now T.TYPE is_negative digits.now (T.number value)) }
+{
+    let places = format.places();
+    if digits.len() > 16 || places > 7 {
+        return None;
+    }
+    let place = point_before(digits, format, places)?;
+    value_from_9::<T>(digits, place, is_negative)
+}
+
+// The number in units of nine to sixteen bytes that lack places or the point, if the description takes that.
+#[inline(always)]
+pub(crate) fn value_filled<T: Integer>(
     digits: &[u8],
     format: &FixedFormat,
     is_negative: bool,
 ) -> Option<T>
     requires minus { IsTrue is_negative → IsTrue T.TYPE.is_signed }
     ensures { IfSome result
-        (λ value. IsFilled format.now T.TYPE is_negative digits.now (T.number value)
-        ⊎ IsFilledWhole format.now T.TYPE is_negative digits.now (T.number value)) }
+        (λ value. IsInUnits format.now T.TYPE is_negative digits.now (T.number value)) }
 {
-    let places = format.places();
-    let size = digits.len();
-    if T::BITS < 32 || size == 0 || size > 16 || places > 9 || !format.takes_fewer() {
+    if T::BITS < 32 || digits.len() < 9 || digits.len() > 16 {
         return None;
     }
-    let mut count = 1;
-    while count < places && count + 2 <= size {
-        if digits[size - 1 - count] == format.point() {
-            if count > 7 {
-                return None;
-            }
-            let Some(written) = value_by_point::<T>(digits, size - 1 - count, is_negative) else {
-                return None;
-            };
-            return append_number::<T>(written, 0, places - count, is_negative);
-        }
-        count += 1;
+    let count = count_behind(digits, format)?;
+    let zeros = format.places() - count;
+    if count == 0 {
+        let written = value_to_16::<T>(digits, is_negative)?;
+        return append_number::<T>(written, 0, zeros, is_negative);
     }
-    let Some(written) = value_to_16::<T>(digits, is_negative) else {
+    if count > 7 {
         return None;
-    };
-    append_number::<T>(written, 0, places, is_negative)
+    }
+    let written = value_from_9::<T>(digits, digits.len() - 1 - count, is_negative)?;
+    append_number::<T>(written, 0, zeros, is_negative)
 }
 
-/// The number that the whole text stands for, for most texts of three to fifteen digits around a point, with all places, which
-/// are seven at most. `None` says nothing of the text.
-#[inline(always)]
-pub fn value_if_short<T: Integer>(text: &[u8], format: &FixedFormat) -> Option<T>
-    requires valid { IsNone (fixed_fault format.now) }
-    ensures { IfSome result
-        (λ units. complete_fixed format.now T.TYPE text.now ≡ Ok (T.number units)) }
-{
-    // The law by which the front has a digit.
-    front_digits();
-    if !is_decimal(format.integer()) || text.is_empty() {
-        return None;
-    }
-    let (is_negative, digits) = behind_minus::<T>(text);
-    if leads_with_zero(digits, format) {
-        return None;
-    }
-    let Some(place) = point_before(digits, format, 4, format.places()) else {
-        return None;
-    };
-    value_around::<T>(digits, place, is_negative)
-}
-
-/// The number that the whole text stands for, for the texts that `value_if_short` reads, and in 32 or 64 bits for most of up to
-/// eight bytes with fewer digits behind the point than there are places, or without a point, if the description takes that. `None`
-/// says nothing of the text.
-///
-/// `CALLER` is one of [`callers`](crate::quick::callers), and changes no answer.
-#[inline(always)]
-pub fn value_if_common<T: Integer, const CALLER: u8>(text: &[u8], format: &FixedFormat) -> Option<T>
-    requires valid { IsNone (fixed_fault format.now) }
-    ensures { IfSome result
-        (λ units. complete_fixed format.now T.TYPE text.now ≡ Ok (T.number units)) }
-{
-    // A product of 128 bits takes registers from the texts with all places.
-    if T::BITS > 64 {
-        return value_if_short::<T>(text, format);
-    }
-    // The law by which the front has a digit.
-    front_digits();
-    if !is_decimal(format.integer()) || text.is_empty() {
-        return None;
-    }
-    let (is_negative, digits) = behind_minus::<T>(text);
-    if leads_with_zero(digits, format) {
-        return None;
-    }
-    if digits.len() > 8 {
-        let Some(place) = point_before(digits, format, 4, format.places()) else {
-            return None;
-        };
-        return value_from_9::<T>(digits, place, is_negative);
-    }
-    if let Some(place) = point_before(digits, format, 4, format.places()) {
-        return value_from_4::<T>(digits, place, is_negative);
-    }
-    value_of_fewer::<T, CALLER>(digits, format, is_negative)
-}
-
-/// The number that the whole text stands for, for most texts of up to sixteen bytes, with fewer digits behind the point than there
-/// are places, or without a point, if the description takes that. `None` says nothing of the text.
+/// The number that the whole text stands for, for most texts of nine to sixteen bytes behind a minus, with fewer digits behind the
+/// point than there are places, or without a point, if the description takes that. `None` says nothing of the text.
 #[inline(always)]
 pub fn value_if_fewer<T: Integer>(text: &[u8], format: &FixedFormat) -> Option<T>
     requires valid { IsNone (fixed_fault format.now) }
@@ -263,13 +257,16 @@ pub fn value_if_fewer<T: Integer>(text: &[u8], format: &FixedFormat) -> Option<T
         return None;
     }
     let (is_negative, digits) = behind_minus::<T>(text);
-    value_of_fewer::<T, { callers::OTHER }>(digits, format, is_negative)
+    value_filled::<T>(digits, format, is_negative)
 }
 
-/// The number that the whole text stands for, for most texts of two to fifteen digits around a point, with all places, which are
-/// seven at most; or with fewer, or without a point, if the description takes that. `None` says nothing of the text.
+/// The number that the whole text stands for, for most texts of up to sixteen bytes behind a minus: digits around a point with all
+/// places, which are seven at most. If the description takes fewer, up to eight bytes may have fewer, or no point. `None` says
+/// nothing of the text.
+///
+/// `CALLER` is one of [`callers`](crate::quick::callers), and changes no answer.
 #[inline(always)]
-pub fn value_at_once<T: Integer>(text: &[u8], format: &FixedFormat) -> Option<T>
+pub fn value_if_short<T: Integer, const CALLER: u8>(text: &[u8], format: &FixedFormat) -> Option<T>
     requires valid { IsNone (fixed_fault format.now) }
     ensures { IfSome result
         (λ units. complete_fixed format.now T.TYPE text.now ≡ Ok (T.number units)) }
@@ -283,8 +280,8 @@ pub fn value_at_once<T: Integer>(text: &[u8], format: &FixedFormat) -> Option<T>
     if leads_with_zero(digits, format) {
         return None;
     }
-    if let Some(place) = point_before(digits, format, 3, format.places()) {
-        return value_by_point::<T>(digits, place, is_negative);
+    if digits.len() > 8 {
+        return value_of_many::<T, CALLER>(digits, format, is_negative);
     }
-    value_of_fewer::<T, { callers::OTHER }>(digits, format, is_negative)
+    value_of_few::<T, CALLER>(digits, format, is_negative)
 }

@@ -9,6 +9,7 @@ pub use Rattle.lexical_parse_integer.proofs.punctuated.PunctuatedAnswers.{fits_h
 pub use Rattle.lexical_parse_integer.proofs.plain.DigitsAlone.{behind_is, sign_of_digit_under, sign_of_minus_under}
 pub use Rattle.lexical_parse_integer.proofs.plain.DigitsByTable.{table_read}
 pub use Rattle.lexical_parse_integer.proofs.plain.DigitsInFront.{begins_read}
+pub use Rattle.lexical_parse_integer.proofs.plain.KindsOfFormats.{decimal_is_plain}
 pub use Rattle.lexical_parse_integer.proofs.reading.FormatBytes.{IsFit, fits, fits_named, fits_octal}
 pub use Rattle.lexical_parse_integer.proofs.reading.OctalZeros.{not_asked}
 pub use Rattle.lexical_parse_integer.proofs.reading.ParserAnswers.{is_fresh}

@@ -52,7 +52,7 @@ fn run_stop(bytes: &[u8], format: &NumberFormat, place: usize) -> usize
     stop
 }
 
-// Whether leading runs may stand in the region: one that starts at 2 or later starts behind a prefix, since a sign has one
+// Whether runs may stand before the first digit. Digits that start at 2 or later start behind a prefix, since a sign has one
 // byte at most.
 #[inline(always)]
 fn admits_leading(format: &NumberFormat, start: usize) -> bool
@@ -103,8 +103,8 @@ fn run_passes(
 
 // The place behind the run of separators that starts at `position`, where the run passes: else the numeral ends before it.
 //
-// Out of line, since runs are rare; the format by value, so that a caller keeps its own in registers. So is what it answers:
-// a `Found` goes through memory.
+// Out of line, since runs are rare. It takes the format by value, so that a caller keeps its own in registers, and answers a
+// place alone, since a `Found` goes through memory.
 #[inline(never)]
 fn behind_run(
     bytes: &[u8],

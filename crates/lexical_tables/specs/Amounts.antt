@@ -1,7 +1,9 @@
 -- Amounts that are read at once: fixed-point numbers of few places, with all of them or fewer.
 use Rattle.std.specs.Prelude.{◌≡◌, ◌≢◌, ◌+◌, ◌-◌, ◌<◌, ◌≤◌, ℕ, Bool, false, true, IsTrue, List, length, slice_index, Ok, Option, Some, None, ⊤}
 use Rattle.lexical_digits.specs.Value.{with_sign}
+use Rattle.lexical_util.specs.Kind.{kind_of}
 use Rattle.lexical_util.specs.Number.{IntegerType, IsNumber}
+use Rattle.lexical_util.specs.declared.format.kind.FormatKind.TheVariants.{Decimal}
 use Rattle.lexical_parse_integer.specs.Plain.{IsBehind, IsPlain}
 use Rattle.lexical_fixed.specs.Fixed.{Fixed}
 use Rattle.lexical_fixed.specs.Grammar.{complete_fixed}
@@ -14,9 +16,9 @@ use Rattle.lexical_tables.specs.Targets.{TargetView, has_bits}
 use Rattle.lexical_tables.specs.declared.dialect.Dialect.{Dialect}
 
 -- A description of amounts that are read at once: it has one to eleven places, or six at most if it takes fewer, its point is
--- no quote, and its integer part has no separator and asks for no sign.
+-- no quote, and its integer part is decimal and has no punctuation.
 pub record IsQuick (fixed : Fixed) : Type 0 where
-  pub plain : IsPlain fixed.integer
+  pub decimal : kind_of fixed.integer ≡ Decimal
   pub some : 1 ≤ fixed.places
   pub few : fixed.places ≤ 11
   pub fewer : IsTrue fixed.takes_fewer → fixed.places ≤ 6

@@ -1,6 +1,6 @@
 //! Amounts that are read at once: digits around a point whose place is known by how many digits stand behind it.
 
-ghost use Rattle.std.specs.Prelude.{◌≡◌, ◌==◌, ◌+◌, ◌-◌, ◌*◌, ◌&&◌, ◌<◌, ◌≤◌, ◌^◌, ◌++◌, ◌∷◌, [], IfSome, IsTrue, length, slice_index, slice_range, take, true};
+ghost use Rattle.std.specs.Prelude.{◌≡◌, ◌↔◌, ◌==◌, ◌+◌, ◌-◌, ◌*◌, ◌&&◌, ◌<◌, ◌≤◌, ◌^◌, ◌++◌, ◌∷◌, [], IfSome, IsTrue, length, slice_index, slice_range, take, true};
 ghost use mir.Val.{bool_byte};
 ghost use Rattle.lexical_util.specs.Ascii.{minus};
 ghost use Rattle.lexical_digits.specs.WrittenNumbers.{WritesDecimal};
@@ -184,7 +184,7 @@ pub fn breaks_zero_rule(text: &[u8], size: usize, has_rule: bool, point: u8) -> 
 /// zeros, [`breaks_zero_rule`] has to be asked too.
 #[inline]
 pub fn is_quick(format: &FixedFormat) -> bool
-    ensures { IsTrue result → IsQuick format.now }
+    ensures { IsTrue result ↔ IsQuick format.now }
 {
     if !is_decimal(format.integer()) || format.point() == b'"' {
         return false;

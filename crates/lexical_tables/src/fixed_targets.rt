@@ -14,7 +14,7 @@ use crate::numbers::Numbers;
 use crate::targets::put_presence;
 use lexical_fields::error_in_text;
 use lexical_fixed::laws::fault_places;
-use lexical_fixed::quick::{complete_if_not_short, value_at_once};
+use lexical_fixed::quick::{callers, complete_if_not_short, value_if_short};
 use lexical_fixed::{FixedFormat, ParseFixed};
 use lexical_parse_integer::Error;
 
@@ -66,8 +66,8 @@ pub fn put_fixed<T: ParseFixed>(
 /// last place, if the fast path reads it, and returns whether it did. Otherwise it changes nothing, and says nothing about
 /// them.
 ///
-/// It reads most that are two to fifteen digits around a point, with up to seven behind it, alone or behind a minus; and, if
-/// fewer places are taken, up to sixteen digits without a point.
+/// It reads most of four to sixteen bytes, alone or behind a minus, that are digits around a point with all places, seven at most;
+/// and, if fewer places are taken, most of up to eight bytes with fewer digits behind the point, or without one.
 ///
 /// It is for a [`TableColumn`](crate::TableColumn) of one's own. The description has to be valid, and the slice has to have
 /// that place.
@@ -89,7 +89,7 @@ pub fn put_fixed_at_once<T: ParseFixed>(
         (record { start = start; text = take size ahead.now })) (map T.number values.old) }
     ensures kept { result ≡ false → values.new ≡ values.old }
 {
-    match value_at_once::<T>(&ahead[..size], format) {
+    match value_if_short::<T, { callers::CELL }>(&ahead[..size], format) {
         Some(value) => {
             values[row] = value;
             true

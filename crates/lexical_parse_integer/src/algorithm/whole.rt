@@ -44,7 +44,7 @@ pub fn value_for_format<T: Integer>(bytes: &[u8], format: &NumberFormat) -> Opti
     value_if_punctuated::<T>(bytes, format)
 }
 
-// The number that more digits stand for than their type has surely room for, or the fault of such a text.
+// The value of a text with more digits than the type surely has room for, or the text's fault.
 #[inline(always)]
 fn long_decimal<T: Integer>(
     bytes: &[u8],

@@ -1,4 +1,4 @@
-use Rattle.std.proofs.Common.{◌≡◌, ◌≤◌, ◌-◌, arith, get_or, length}
+use Rattle.std.proofs.Common.{◌≡◌, ◌≤◌, ◌+◌, ◌-◌, arith, get_or, length}
 use Rattle.std.proofs.lemmas.Bool.Decides.{nat_tests}
 use Rattle.lexical_fixed.proofs.ShortNumbers.{stands_there}
 use Rattle.lexical_fixed.proofs.short.point_before.Goals as goal
@@ -7,18 +7,8 @@ pub returns-clause-point : goal.returns-clause-point
 returns-clause-point c =
     let digits = c.args.digits.now in
     let count = c.args.count in
-    let many : c.args.least ≤ length digits = grind (arith, nat_tests, c.if-size-least.false) in
-    let few : length digits ≤ 16 = grind (arith, nat_tests, c.if-size-gt16.false) in
-    let short : count ≤ 7 = grind (arith, nat_tests, c.if-count-gt7.false) in
     let some : 1 ≤ count = grind (arith, nat_tests, c.if-count-eq0.false) in
-    let room : count ≤ length digits - 2 = grind (arith, nat_tests, c.if-count-size.false) in
+    let within : count ≤ length digits - 2 = grind (arith, nat_tests, c.if-count-size.false) in
+    let room : count + 2 ≤ length digits = omega (arith, within, c.requires) in
     let same : get_or digits (length digits - 1 - count) 0 ≡ c.args.format.now.point = grind (arith, nat_tests, c.if-digits-place.false, c.point.ensures) in
-    record {
-      few = few;
-      short = short;
-      before = omega (arith, c.requires.least, many, some, room);
-      behind = some;
-      room = c.requires.count;
-      size = omega (arith, c.requires.least, many, some, room);
-      point = stands_there c.args.format.now.point digits (length digits - 1 - count) (omega (arith, c.requires.least, many, some, room)) same;
-    }
+    record { behind = some; before = room; point = stands_there c.args.format.now.point digits (length digits - 1 - count) (omega (arith, room, some)) same }

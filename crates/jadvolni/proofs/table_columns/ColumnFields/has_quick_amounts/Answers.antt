@@ -8,4 +8,4 @@ pub returns : goal.returns
 returns c = λ yes.
     let column = c.args.self.now in
     let places : column.description.places ≢ 0 = grind (arith, nat_tests) in
-    amounts_there column _ (sym c.number_type.ensures ∙ c.in-Some.is) places (subst IsQuick c.decimal.ensures (c.is_quick.ensures yes))
+    amounts_there column _ (sym c.number_type.ensures ∙ c.in-Some.is) places (subst IsQuick c.decimal.ensures (c.is_quick.ensures.0 yes))

@@ -5,6 +5,7 @@ use Rattle.lexical_util.specs.Number.{IntegerType}
 use Rattle.lexical_digits.specs.Value.{with_sign}
 use Rattle.lexical_fields.specs.Fields.{FieldView}
 use Rattle.lexical_fields.specs.Places.{in_text}
+use Rattle.lexical_parse_integer.proofs.ForCallers.{decimal_is_plain}
 use Rattle.lexical_parse_integer.specs.Answer.{view_of}
 use Rattle.lexical_fixed.specs.Fixed.{Fixed}
 use Rattle.lexical_fixed.specs.Grammar.{complete_fixed}
@@ -51,7 +52,7 @@ returns c =
     let number = with_sign c.in-Some-units_of_front.is_negative c.in-Some-units_of_front.units in
     let stands : IsTrue c.put_coded.result
     → complete_fixed format (type_named c.in-Some.numbers) (take c.args.size c.args.ahead.now) ≡ Ok number = λ did. amount.stands format (type_named c.in-Some.numbers)
-    (valid_fixed column (c.args.row + 1) c.in-Some.numbers type_is above c.requires.usable) quick.plain
+    (valid_fixed column (c.args.row + 1) c.in-Some.numbers type_is above c.requires.usable) (decimal_is_plain format.integer quick.decimal)
     (keeps_rule format c.has_zero_rule-has_rule.result c.point.result c.in-Some-units_of_front.is_negative c.args.ahead.now c.args.size
     c.has_zero_rule-has_rule.ensures (c.point.ensures ∙ ap (λ (it : Fixed). it.point) c.standard-format.ensures) c.in-Some-units_of_front.ensures.minus (sym c.breaks_zero_rule.ensures ∙ c.if-breaks_zero_rule.false))
     (sym point) (sym places) (sym fewer) (put.fits did) (put.minus did) in

@@ -2,6 +2,7 @@ use Rattle.std.proofs.Common.{◌≡◌, ◌∙◌, Ok, ap, sym, take}
 use Rattle.std.specs.Prelude.{IsTrue, ℕ}
 use Rattle.lexical_digits.specs.Value.{with_sign}
 use Rattle.lexical_fields.specs.Places.{in_text}
+use Rattle.lexical_parse_integer.proofs.ForCallers.{decimal_is_plain}
 use Rattle.lexical_parse_integer.specs.Answer.{view_of}
 use Rattle.lexical_tables.specs.Readings.{FixedPoints, Number, fixed_answer}
 use Rattle.lexical_tables.specs.Targets.{error_in, numbers_in, type_of, view_of_fixed, with_number}
@@ -16,7 +17,7 @@ told : (c : goal.After-put_with_sign) → IsTrue c.put_with_sign.result → (sta
 told c = λ did start.
     let format = c.args.self.now.format in
     let put = c.put_with_sign.ensures in
-    ap (in_text start) (c.in-Some.ensures.stands.stands format (type_of c.args.self.now.numbers) c.requires.usable.0 c.requires.amounts.plain
+    ap (in_text start) (c.in-Some.ensures.stands.stands format (type_of c.args.self.now.numbers) c.requires.usable.0 (decimal_is_plain format.integer c.requires.amounts.decimal)
     (keeps_rule format c.no_integer_leading_zeros-has_rule.result c.point.result c.in-Some.is_negative c.args.ahead.now c.args.size
     (c.no_integer_leading_zeros-has_rule.ensures ∙ ap (λ f. f.no_integer_leading_zeros) c.integer.ensures) c.point.ensures c.in-Some.ensures.minus (sym c.breaks_zero_rule.ensures ∙ c.if-breaks_zero_rule.false))
     (sym c.point-2.ensures) (sym c.places.ensures) (sym c.takes_fewer.ensures) (put.fits did) (put.minus did))
