@@ -42,7 +42,7 @@ export class JadvolniError extends Error {}
  *
  * Its properties count from 0, over the whole text: a header isn't a row, but its lines and bytes count.
  * The message of a table counts lines, rows and columns from 1, as an editor does:
- * `line 3, "cents": "12x5": invalid digit at byte 2 of the cell`. That of a column counts fields from 0.
+ * `line 3, "cents": "12x5": invalid digit at byte 2 of the cell`. That of a column counts fields from 1.
  */
 export class ParseError extends JadvolniError {
   /** What is wrong. */

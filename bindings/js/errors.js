@@ -40,7 +40,7 @@ export function faultOfText(status, place) {
 /** The error for a field of a column, which starts at `start`. */
 export function faultOfField(status, place, field, start) {
   const [kind, text] = STATUSES[status];
-  return new ParseError(`${text} at byte ${place}, in field ${field}`, kind, place, { field, start });
+  return new ParseError(`${text} at byte ${place}, in field ${field + 1}`, kind, place, { field, start });
 }
 
 export class FormatError extends JadvolniError {

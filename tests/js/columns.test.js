@@ -51,7 +51,7 @@ test("columns of each type", () => {
 test("a fault says in which field it is", () => {
   assert.throws(() => parseColumn("12,256,x", "u8", ","), {
     name: "ParseError",
-    message: "overflow at byte 5, in field 1",
+    message: "overflow at byte 5, in field 2",
     kind: "Overflow",
     place: 5,
     field: 1,

@@ -9,7 +9,7 @@ test("returns", () => {
   assert.deepEqual(parseColumn("", "i64", { allows_returns: true }), new BigInt64Array());
   assert.throws(() => parseColumn("1\n2\r\n", "u8", { has_returns: true }), {
     name: "ParseError", kind: "MissingReturn", place: 1, field: 0,
-    message: "missing carriage return at byte 1, in field 0",
+    message: "missing carriage return at byte 1, in field 1",
   });
 });
 
@@ -19,7 +19,7 @@ test("blanks, and commas, which are no separators of a column", () => {
   const grouped = new Format({ digit_separator: ",", integer_internal_digit_separator: true });
   assert.deepEqual(parseColumn(" 1,234 \n", "u16", { allows_blanks, format: grouped }), Uint16Array.of(1234));
   assert.throws(() => parseColumn(" 1\n 2,3\n", "u8", { allows_blanks }), {
-    message: "invalid digit at byte 5, in field 1", kind: "InvalidDigit", place: 5, field: 1, row: undefined,
+    message: "invalid digit at byte 5, in field 2", kind: "InvalidDigit", place: 5, field: 1, row: undefined,
   });
   assert.throws(() => parseColumn("1\n\n", "u8", { allows_blanks }), { kind: "Empty", place: 2, field: 1 });
 });
@@ -42,7 +42,7 @@ test("amounts", () => {
   assert.deepEqual(parseColumn("1.5\r\n\n2", "u16", all),
     { numbers: Uint16Array.of(150, 0, 200), present: Uint8Array.of(1, 0, 1) });
   assert.throws(() => parseColumn("1.50\n2.505\n", "u16", { places: 2 }), {
-    message: "invalid digit at byte 9, in field 1", kind: "InvalidDigit", place: 9, field: 1, start: 5,
+    message: "invalid digit at byte 9, in field 2", kind: "InvalidDigit", place: 9, field: 1, start: 5,
   });
   assert.throws(() => parseColumn("1", "u8", { places: 39 }), { name: "FormatError", kind: "InvalidPlaces" });
 });

@@ -94,7 +94,7 @@ static PyObject *message_of(jadvolni_result answer, const char *text, size_t len
     PyObject *shown = shown_bytes(text, len), *message = NULL;
     if (shown && field)
         message = PyUnicode_FromFormat("%s at byte %zu, in field %zu: %S", fault, answer.place,
-                                       field->index, shown);
+                                       field->index + 1, shown);
     else if (shown)
         message = PyUnicode_FromFormat("%s at byte %zu: %S", fault, answer.place, shown);
     Py_XDECREF(shown);

@@ -45,7 +45,7 @@ class Blocks(unittest.TestCase):
             error = told.exception
             self.assertEqual((error.kind, error.place, error.field, error.start),
                              ("InvalidDigit", 10, 3, 9))
-            self.assertEqual(str(error), "invalid digit at byte 10, in field 3: b'4x'")
+            self.assertEqual(str(error), "invalid digit at byte 10, in field 4: b'4x'")
 
     def test_numbers_in_front_of_a_fault_stand(self):
         column = iter_column(io.BytesIO(b"1\n22\n333\nx\n"), size=5)

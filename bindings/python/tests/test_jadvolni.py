@@ -255,7 +255,7 @@ class Columns(Case):
     def test_the_first_fault(self):
         error = self.fault("Overflow", 5, parse_column, b"12\n256\nx\n", "u8")
         self.assertEqual((error.field, error.start), (1, 3))
-        self.assertEqual(str(error), "overflow at byte 5, in field 1: b'256'")
+        self.assertEqual(str(error), "overflow at byte 5, in field 2: b'256'")
         self.fault("Empty", 0, parse_column, b",,,", "u8", b",")
         self.fault("Empty", 2, parse_column, b"1,,2", "u8", b",")
         for field in range(4):
@@ -317,7 +317,7 @@ class Columns(Case):
                 text = ";".join(fields) + ";"
                 error = self.fault(kind, 6 * field + within, parse_column, text, "i16", ";")
                 self.assertEqual((error.field, error.start), (field, 6 * field))
-                self.assertTrue(str(error).endswith(f"in field {field}: b'{wrong}'"))
+                self.assertTrue(str(error).endswith(f"in field {field + 1}: b'{wrong}'"))
 
     def test_columns_beside_int(self):
         for seed in range(200):

@@ -109,11 +109,11 @@ class Faults(unittest.TestCase):
     def test_amounts_that_are_none(self):
         with self.assertRaises(ParseError) as told:
             parse_column("1,50\n12,505\n", EURO)
-        self.assertEqual(str(told.exception), "invalid digit at byte 10, in field 1: b'12,505'")
+        self.assertEqual(str(told.exception), "invalid digit at byte 10, in field 2: b'12,505'")
         with self.assertRaises(ParseError) as told:
             parse_column("1\n" + 99 * "x", missing="")
         self.assertEqual(str(told.exception),
-                         f"invalid digit at byte 2, in field 1: b'{40 * 'x'}'..")
+                         f"invalid digit at byte 2, in field 2: b'{40 * 'x'}'..")
 
     def test_separators_that_are_no_line_feed(self):
         for given in ({"has_returns": True}, ANY_ENDS, BLANKS, {"missing": ""}, {"type": EURO}):

@@ -74,7 +74,7 @@ class Messages(unittest.TestCase):
                 self.assertEqual((caught.exception.kind, str(caught.exception)), (kind, message))
                 with self.assertRaises(ParseError) as caught:
                     parse_column(f"-0,{text}", "i8", ",", Format(**format))
-                message = f"{listed()[kind]} at byte {place + 3}, in field 1: {text.encode()!r}"
+                message = f"{listed()[kind]} at byte {place + 3}, in field 2: {text.encode()!r}"
                 self.assertEqual((caught.exception.kind, str(caught.exception)), (kind, message))
 
     def test_faults_of_formats(self):

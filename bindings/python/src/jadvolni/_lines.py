@@ -21,7 +21,7 @@ _NAME = "column"
 def _error(fault: Fault) -> ParseError:
     """The exception for a fault, as parse_column raises it for any column."""
     shown = f"{fault.text[:SHOWN]!r}" + (".." if len(fault.text) > SHOWN else "")
-    error = ParseError(f"{fault.message} at byte {fault.place}, in field {fault.row}: {shown}")
+    error = ParseError(f"{fault.message} at byte {fault.place}, in field {fault.row + 1}: {shown}")
     error.kind, error.place = fault.kind, fault.place
     error.field, error.start = fault.row, fault.row_start
     return error
