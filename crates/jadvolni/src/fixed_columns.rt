@@ -11,6 +11,7 @@ ghost use Rattle.jadvolni.specs.Tables.{put_number, target_of};
 
 use crate::table_columns::ColumnFields;
 use lexical_fixed::FixedFormat;
+use lexical_fixed::quick::{callers, units_in_groups};
 use lexical_parse_integer::Error;
 use lexical_tables::codes::{AT_ONCE, PARSED};
 use lexical_tables::{breaks_zero_rule, is_quick, units_of_front};
@@ -98,9 +99,63 @@ impl ColumnFields<'_> {
         self.arrays.put_coded(numbers, row, is_negative, units)
     }
 
+    // Puts the amount of a text into a row's place, where the column's integer parts have a separator beside the standard format,
+    // and the text is a short one, alone or in groups of three.
+    #[inline(never)]
+    pub(crate) fn put_in_groups(&mut self, row: usize, text: &[u8]) -> bool
+        requires places { self.old.description.places ≢ 0 }
+        requires usable { IsUsable (row + 1) (target_of self.old) }
+        ensures fault { IsTrue result → (start : ℕ) → text_fault (target_of self.old)
+            (record { start = start; text = text.now }) ≡ None }
+        ensures target { IsTrue result → (start : ℕ) → target_of self.new
+            ≡ option_map (put_number row (record { start = start; text = text.now }))
+            (target_of self.old) }
+        ensures kept { result ≡ false → target_of self.new ≡ target_of self.old }
+        ensures description { self.new.description ≡ self.old.description }
+    {
+        if !self.description.has_separator_alone() {
+            return false;
+        }
+        let Some(numbers) = self.arrays.number_type() else {
+            return false;
+        };
+        let Some((is_negative, units)) = units_in_groups::<{ callers::CELL }>(
+            text,
+            &self.description.separated(),
+        ) else {
+            return false;
+        };
+        self.arrays.put_coded(numbers, row, is_negative, units)
+    }
+
     // Puts the fixed-point number of a text into a row's place, or returns the text's fault.
     #[inline(never)]
     pub(crate) fn put_fixed_number(
+        &mut self,
+        row: usize,
+        start: usize,
+        text: &[u8],
+    ) -> Option<Error>
+        requires numbers { keeps_text (target_of self.old) ≡ false }
+        requires places { self.old.description.places ≢ 0 }
+        requires usable { IsUsable (row + 1) (target_of self.old) }
+        requires fits { start + length text.now < 2 ^ 64 }
+        ensures fault { result ≡ text_fault (target_of self.old)
+            (record { start = start; text = text.now }) }
+        ensures target { target_of self.new ≡ option_map (put_number row
+            (record { start = start; text = text.now })) (target_of self.old) }
+    {
+        if self.description.integer.digit_separator != 0 {
+            if self.put_in_groups(row, text) {
+                return None;
+            }
+        }
+        self.put_fixed_parsed(row, start, text)
+    }
+
+    // Puts the fixed-point number of a text into a row's place, or returns the text's fault, by the parser.
+    #[inline(never)]
+    pub(crate) fn put_fixed_parsed(
         &mut self,
         row: usize,
         start: usize,

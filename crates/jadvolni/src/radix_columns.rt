@@ -218,7 +218,10 @@ impl ColumnFields<'_> {
         ensures kept { result ≡ false → target_of self.new ≡ target_of self.old }
     {
         if self.description.places != 0 {
-            return self.put_fixed_number(row, 0, text).is_none();
+            if self.put_in_groups(row, text) {
+                return true;
+            }
+            return self.put_fixed_parsed(row, 0, text).is_none();
         }
         self.put_by_format(row, 0, text).is_none()
     }

@@ -1,15 +1,19 @@
 -- Short amounts by words: digits around a point, with separators before it, are what the whole text stands for.
-use Rattle.std.proofs.Common.{◌≡◌, ℕ, suc, ◌+◌, ◌-◌, ◌*◌, ◌^◌, ◌≤◌, Bool, true, false, List, [], ◌∷◌, ◌++◌, length, take, drop, Option, Some, None, IsNone, is_some, Ok, refl, sym, ap, subst, ◌∙◌, arith}
-use Rattle.std.proofs.Math.IntN.{ℤ}
+use Rattle.std.proofs.Common.{◌≡◌, ℕ, suc, ◌+◌, ◌-◌, ◌*◌, ◌^◌, ◌≤◌, Bool, true, false, ◌&&◌, IsTrue, List, [], ◌∷◌, ◌++◌, length, take, drop, Option, Some, None, IsNone, is_some, Ok, refl, sym, ap, subst, ◌∙◌, arith, inl}
+use Rattle.std.proofs.Math.IntN.{ℤ, nat_abs, pos}
 use Rattle.std.proofs.lemmas.Bool.Decides.{nat_tests}
 use Rattle.std.proofs.Math.Nat.{one-le-pow, mul-le-mul_left}
 use Rattle.std.proofs.lemmas.List.{take_all}
 use Rattle.std.proofs.lemmas.List.Elements.{filter_map-append}
-use Rattle.std.specs.Prelude.{◌==◌, IfSome, slice_range}
-use mir.Val.{bool_byte}
+use Rattle.std.proofs.lemmas.Bool.{ltb-true}
+use Rattle.std.proofs.lemmas.Int.{to_z-of_z}
+use Rattle.std.specs.Prelude.{◌==◌, IfSome, slice_get, slice_range}
+use mir.Syntax.{w64}
+use mir.Val.{bool_byte, of_z, to_z}
+use Rattle.lexical_util.specs.Ascii.{minus as minus_sign}
 use Rattle.lexical_util.specs.Digit.{digit}
 use Rattle.lexical_util.specs.Format.{Format}
-use Rattle.lexical_util.specs.Number.{HasSign, IntegerType, IsNumber, is_number}
+use Rattle.lexical_util.specs.Number.{HasSign, IntegerType, IsNumber, integer_type, is_number}
 use Rattle.lexical_util.specs.Validity.{fault}
 use Rattle.lexical_digits.specs.Value.{positional_value, with_sign}
 use Rattle.lexical_digits.specs.Words.{AreDigits, word_value}
@@ -20,13 +24,15 @@ use Rattle.lexical_parse_integer.specs.Laws.{Completes}
 use Rattle.lexical_parse_integer.specs.Grouped.{AreGrouped, AreWorth, digits_among}
 use Rattle.lexical_parse_integer.specs.Head.{sign}
 use Rattle.lexical_parse_integer.specs.Plain.{IsBehind, keeps_zero_rule}
+use Rattle.lexical_parse_integer.specs.Runs.{are_same}
 use Rattle.lexical_parse_integer.proofs.ForCallers.{fits, groups_read, head_is, sign_of_digit_under, sign_of_minus_under}
 use Rattle.lexical_fixed.specs.Append.{IsAppended}
-use Rattle.lexical_fixed.specs.Around.{IsValueAround}
+use Rattle.lexical_fixed.specs.Around.{IsShortAmount, IsValueAround}
 use Rattle.lexical_fixed.specs.Fixed.{Fixed}
 use Rattle.lexical_fixed.specs.Fraction.{read_zeros, with_digits}
 use Rattle.lexical_fixed.specs.Grammar.{complete_fixed, is_negative}
 use Rattle.lexical_fixed.specs.Parted.{IsParted, point_place}
+use Rattle.lexical_fixed.specs.Quick.{HasPoint}
 use Rattle.lexical_fixed.specs.Validity.{fixed_fault}
 use Rattle.lexical_fixed.proofs.Appended.{appended_sign}
 use Rattle.lexical_fixed.proofs.AroundPoint.{among_digits, among_length}
@@ -34,8 +40,9 @@ use Rattle.lexical_fixed.proofs.Digits.{is_number-below}
 use Rattle.lexical_fixed.proofs.LastPoints.{SameBehind, part_is, part_sign, parted_units, whole_is}
 use Rattle.lexical_fixed.proofs.QuickDigits.{no_zeros}
 use Rattle.lexical_fixed.proofs.ShortNumbers.{behind_drop, behind_length}
+use Rattle.lexical_fixed.proofs.ShortUnits.{parted_by}
 use Rattle.lexical_fixed.proofs.Valid.{integer_valid}
-use Rattle.lexical_fixed.proofs.QuickParts.{IsDecimal, decimal_of}
+use Rattle.lexical_fixed.proofs.QuickParts.{IsDecimal, decimal_of, none_of}
 
 -- ---- the integer part
 
@@ -77,19 +84,17 @@ whole_groups f t true text (c ∷ cs) value valid decimal unasked behind grouped
 among_joined : (xs ys : List ℕ) → digits_among 10 (xs ++ ys) ≡ digits_among 10 xs ++ digits_among 10 ys
 among_joined xs ys = filter_map-append (λ byte. digit 10 byte) xs ys
 
--- What is known of a short amount: the point stands at `place` of what stands behind a minus or none.
-pub record IsShortAmount (f : Fixed) (t : IntegerType) (b : Bool) (text bytes : List ℕ) (place count : ℕ) : Type 0 where
-  pub behind : IsBehind b t text bytes
-  pub minus : b ≡ is_negative t text
-  pub size : length bytes ≡ place + 1 + count
-  pub before : 1 ≤ place
-  pub some : 1 ≤ count
-  pub all : count ≡ f.places
-  pub unasked : f.integer.required_mantissa_sign ≡ false
-  pub rule : keeps_zero_rule f.integer (take place bytes) ≡ true
+module _ (f : Fixed) (t : IntegerType) (b : Bool) (text bytes : List ℕ) (count : ℕ) (v : ℤ) (behind : IsBehind b t text bytes) (minus : b ≡ is_negative t text)
+    (m : IsShortAmount f t b bytes count v) where
+  abbrev place : ℕ
+  place = length bytes - 1 - count
 
-module _ (f : Fixed) (t : IntegerType) (b : Bool) (text bytes : List ℕ) (place count : ℕ) (v : ℤ) (m : IsShortAmount f t b text bytes place count)
-    (a : IsValueAround t b f.integer place bytes v) where
+  abbrev a : IsValueAround t b f.integer place bytes v
+  a = m.around
+
+  size : length bytes ≡ place + 1 + count
+  size = let long = m.before in omega arith
+
   abbrev part : List ℕ
   part = take place bytes
 
@@ -126,12 +131,12 @@ module _ (f : Fixed) (t : IntegerType) (b : Bool) (text bytes : List ℕ) (place
   -- where the point stands in the text
   stands : point_place text count ≡ bool_byte b + place
   stands =
-      let size = behind_length b t text bytes m.behind in
+      let long = behind_length b t text bytes behind in
       let some : (count == 0) ≡ false = (let s = m.some in grind (arith, nat_tests)) in
-      rw some (omega (arith, size, m.size))
+      rw some (omega (arith, long, size))
 
   before_is : IsBehind b t (take (point_place text count) text) part
-  before_is = subst (λ k. IsBehind b t (take k text) part) (sym stands) (taken b m.behind)
+  before_is = subst (λ k. IsBehind b t (take k text) part) (sym stands) (taken b behind)
     where
       taken : (b : Bool) → IsBehind b t text bytes → IsBehind b t (take (bool_byte b + place) text) part
       taken false same = let e : 0 + place ≡ place = omega arith in ap (λ k. take k text) e ∙ ap (take place) same
@@ -139,9 +144,9 @@ module _ (f : Fixed) (t : IntegerType) (b : Bool) (text bytes : List ℕ) (place
 
   behind_is : drop (length text - count) text ≡ rest
   behind_is =
-      let size = behind_length b t text bytes m.behind in
-      let here : length text - count ≡ bool_byte b + (place + 1) = omega (arith, size, m.size) in
-      ap (λ k. drop k text) here ∙ behind_drop b t text bytes (place + 1) m.behind
+      let long = behind_length b t text bytes behind in
+      let here : length text - count ≡ bool_byte b + (place + 1) = omega (arith, long, size) in
+      ap (λ k. drop k text) here ∙ behind_drop b t text bytes (place + 1) behind
 
   -- so the whole text stands for it
   pub short_amount : SameBehind partial → SameBehind number_in_front → ((format : Format) (type : IntegerType) (bs : List ℕ) → Completes (length bs) (complete format type bs) (partial format type bs))
@@ -149,9 +154,8 @@ module _ (f : Fixed) (t : IntegerType) (b : Bool) (text bytes : List ℕ) (place
   short_amount front number completes valid letter at =
       let decimal = decimal_of f valid in
       let read : complete f.integer t (take (point_place text count) text) ≡ Ok whole =
-      whole_groups f.integer t b _ part whole (integer_valid f valid) decimal m.unasked before_is a.around.part m.rule (record { worth = refl; fits = part_fits }) in
+      whole_groups f.integer t b _ part whole (integer_valid f valid) decimal m.no_sign before_is a.around.part m.rule (record { worth = refl; fits = part_fits }) in
       let is = part_is f t text count front number valid letter at completes whole read in
-      let minus = m.minus in
       let held : HasSign (is_negative t text) whole = part_sign f.integer t text whole _ is in
       let more : IsAppended t (is_negative t text) whole (drop (length text - count) text) v = record {
         digits = subst (λ (bs : List ℕ). AreDigits 10 bs) (sym behind_is) a.around.fraction;
@@ -172,12 +176,74 @@ separator_no_digit f valid = by_byte f.integer.digit_separator refl
     by_byte None is = tt
     by_byte (Some byte) is = ap (λ r. digit r byte) (sym (decimal_of f valid).radix) ∙ (fits f.integer (integer_valid f valid)).separator byte is
 
+-- what is found is a short amount's value
+pub short_found : {V : Type 0} (number_of : V → ℤ) (f : Fixed) (t : IntegerType) (b : Bool) (bytes : List ℕ) (count : ℕ) (found : Option V)
+    → count + 2 ≤ length bytes → 1 ≤ count → count ≡ f.places → f.integer.required_mantissa_sign ≡ false → keeps_zero_rule f.integer (take (length bytes - 1 - count) bytes) ≡ true
+    → IfSome found (λ v. IsValueAround t b f.integer (length bytes - 1 - count) bytes (number_of v)) → IfSome found (λ v. IsShortAmount f t b bytes count (number_of v))
+short_found number_of f t b bytes count None before some all no_sign rule around = tt
+short_found number_of f t b bytes count (Some v) before some all no_sign rule around =
+    record { before = before; some = some; all = all; no_sign = no_sign; rule = rule; around = around }
+
 -- what is found is what the whole text stands for
-pub short_amounts : {V : Type 0} (number_of : V → ℤ) (f : Fixed) (t : IntegerType) (b : Bool) (text bytes : List ℕ) (place count : ℕ) (found : Option V)
-    → IsShortAmount f t b text bytes place count → SameBehind partial → SameBehind number_in_front
+pub short_amounts : {V : Type 0} (number_of : V → ℤ) (f : Fixed) (t : IntegerType) (b : Bool) (text bytes : List ℕ) (count : ℕ) (found : Option V)
+    → IsBehind b t text bytes → b ≡ is_negative t text → SameBehind partial → SameBehind number_in_front
     → ((format : Format) (type : IntegerType) (bs : List ℕ) → Completes (length bs) (complete format type bs) (partial format type bs))
     → IsNone (fixed_fault f) → digit 36 f.point ≡ None → IsParted f text count
-    → IfSome found (λ v. IsValueAround t b f.integer place bytes (number_of v)) → IfSome found (λ v. complete_fixed f t text ≡ Ok (number_of v))
-short_amounts number_of f t b text bytes place count None m front number completes valid letter at a = tt
-short_amounts number_of f t b text bytes place count (Some v) m front number completes valid letter at a =
-    short_amount f t b text bytes place count (number_of v) m a front number completes valid letter at
+    → IfSome found (λ v. IsShortAmount f t b bytes count (number_of v)) → IfSome found (λ v. complete_fixed f t text ≡ Ok (number_of v))
+short_amounts number_of f t b text bytes count None behind minus front number completes valid letter at m = tt
+short_amounts number_of f t b text bytes count (Some v) behind minus front number completes valid letter at m =
+    short_amount f t b text bytes count (number_of v) behind minus m front number completes valid letter at
+
+-- ---- in each type
+
+-- digits that have a value in one type have it in each that has the number
+in_type : (f : Fixed) (s t : IntegerType) (b : Bool) (bytes : List ℕ) (count n : ℕ) (v : ℤ) → v ≡ pos n → IsNumber t (with_sign b n) → IsShortAmount f s false bytes count v → IsShortAmount f t b bytes count (with_sign b n)
+in_type f s t b bytes count n v is fits m =
+    let same : n ≡ m.around.number = ap nat_abs (sym is ∙ m.around.worth) in
+    record {
+      before = m.before;
+      some = m.some;
+      all = m.all;
+      no_sign = m.no_sign;
+      rule = m.rule;
+      around = record { number = m.around.number; around = m.around.around; worth = ap (with_sign b) same; fits = fits };
+    }
+
+behind_in : (s t : IntegerType) (b : Bool) (text bytes : List ℕ) → (IsTrue b → t.is_signed ≡ true) → IsBehind b s text bytes → IsBehind b t text bytes
+behind_in s t false text bytes signed is = is
+behind_in s t true text bytes signed is = (is.0, signed refl)
+
+minus_in : (s t : IntegerType) (b : Bool) (text : List ℕ) → s.is_signed ≡ true → (IsTrue b → t.is_signed ≡ true) → b ≡ is_negative s text → b ≡ is_negative t text
+unfolding is_negative
+minus_in s t b text some signed is = by_sign b t.is_signed signed (is ∙ ap (λ c. c && are_same (Some minus_sign) (slice_get text 0)) some)
+  where
+    by_sign : (b c : Bool) → (IsTrue b → c ≡ true) → b ≡ are_same (Some minus_sign) (slice_get text 0) → b ≡ c && are_same (Some minus_sign) (slice_get text 0)
+    by_sign false true signed is = is
+    by_sign false false signed is = refl
+    by_sign true c signed is = let yes = signed refl in rw yes is
+
+-- what is read as one type is what the whole text stands for in each type that has the number
+pub units_in : (f : Fixed) (s : IntegerType) (b : Bool) (text bytes : List ℕ) (count n : ℕ) (v : ℤ) → s.is_signed ≡ true → IsBehind b s text bytes → b ≡ is_negative s text → v ≡ pos n
+    → SameBehind partial → SameBehind number_in_front → ((format : Format) (type : IntegerType) (bs : List ℕ) → Completes (length bs) (complete format type bs) (partial format type bs))
+    → IsNone (fixed_fault f) → digit 36 f.point ≡ None → IsParted f text count → IsShortAmount f s false bytes count v
+    → (t : IntegerType) → (IsTrue b → t.is_signed ≡ true) → IsNumber t (with_sign b n) → complete_fixed f t text ≡ Ok (with_sign b n)
+units_in f s b text bytes count n v some behind minus is front number completes valid letter at m t signed fits =
+    short_amount f t b text bytes count (with_sign b n) (behind_in s t b text bytes signed behind) (minus_in s t b text some signed minus) (in_type f s t b bytes count n v is fits m)
+    front number completes valid letter at
+
+-- a number that isn't below 0 is the same without a sign
+pub without_sign : (n : ℕ) (v : ℤ) → v ≡ pos n → IsNumber (integer_type 64 true) v → v ≡ pos (nat_abs (to_z w64 (of_z w64 v)))
+without_sign n v is fits =
+    let number = subst (IsNumber (integer_type 64 true)) is fits in
+    let low = ltb-true _ _ number in
+    let same : to_z w64 (of_z w64 (pos n)) ≡ pos n = to_z-of_z w64 (pos n) (record { sfits = omega arith }) in
+    is ∙ ap pos (sym (subst (λ z. nat_abs (to_z w64 (of_z w64 z)) ≡ n) (sym is) (ap nat_abs same)))
+
+-- a byte that is no digit has no value
+pub no_value : (c point : ℕ) (found : Bool) → found ≡ is_some (digit 36 c) → c ≡ point → found ≡ false → digit 36 point ≡ None
+no_value c point found is same not_one = ap (digit 36) (sym same) ∙ none_of (digit 36 c) (sym is ∙ not_one)
+
+-- a point with all places behind it parts the text
+pub parted_there : (f : Fixed) (bytes : List ℕ) (count : ℕ) (place : Option ℕ) → count ≡ f.places → is_some place ≡ true → IfSome place (λ at. HasPoint f bytes count) → IsParted f bytes count
+parted_there f bytes count None all some at = cc
+parted_there f bytes count (Some place) all some at = parted_by f bytes count (omega arith) (inl (omega arith)) at

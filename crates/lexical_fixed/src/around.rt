@@ -24,7 +24,11 @@ fn is_between(format: &NumberFormat, byte: u8) -> bool
 
 // The number of the digits around a point in up to eight bytes, with a separator in front of the three digits before the point.
 #[inline(always)]
-fn number_in_groups(bytes: &[u8], format: &NumberFormat, place: usize) -> Option<u32>
+fn number_in_groups<const CALLER: u8>(
+    bytes: &[u8],
+    format: &NumberFormat,
+    place: usize,
+) -> Option<u32>
     requires few { length bytes.now ≤ 8 }
     requires before { 5 ≤ place }
     requires within { place < length bytes.now }
@@ -41,7 +45,7 @@ fn number_in_groups(bytes: &[u8], format: &NumberFormat, place: usize) -> Option
 
 // The number of one to eight bytes that are digits, alone or in groups of three before the last `tail` of them.
 #[inline(always)]
-fn number_before(bytes: &[u8], format: &NumberFormat, tail: usize) -> Option<u32>
+fn number_before<const CALLER: u8>(bytes: &[u8], format: &NumberFormat, tail: usize) -> Option<u32>
     requires some { 1 ≤ length bytes.now }
     requires few { length bytes.now ≤ 8 }
     requires tail { 1 ≤ tail }
@@ -67,7 +71,11 @@ fn number_before(bytes: &[u8], format: &NumberFormat, tail: usize) -> Option<u32
 // The numbers of the digits in nine to sixteen bytes: of those before the last eight bytes, and of those among these, which hold
 // the point and the separator.
 #[inline(always)]
-fn numbers_in_groups(bytes: &[u8], format: &NumberFormat, place: usize) -> Option<(u32, u32)>
+fn numbers_in_groups<const CALLER: u8>(
+    bytes: &[u8],
+    format: &NumberFormat,
+    place: usize,
+) -> Option<(u32, u32)>
     requires some { 9 ≤ length bytes.now }
     requires few { length bytes.now ≤ 16 }
     requires near { length bytes.now ≤ place + 4 }
@@ -83,18 +91,18 @@ fn numbers_in_groups(bytes: &[u8], format: &NumberFormat, place: usize) -> Optio
     // The last eight bytes hold the point, its places, three digits, the separator, and so many digits of the next group that as
     // many as there are places end the first part. With three places there are none of them.
     let first = bytes.len() - 8;
-    let high = number_before(&bytes[..first], format, bytes.len() - 1 - place)?;
+    let high = number_before::<CALLER>(&bytes[..first], format, bytes.len() - 1 - place)?;
     let low = if place == first + 4 {
         number_without(&bytes[first + 1..], 3)?
     } else {
-        number_in_groups(&bytes[first..], format, place - first)?
+        number_in_groups::<CALLER>(&bytes[first..], format, place - first)?
     };
     Some((high, low))
 }
 
 // The value of the digits around a point in up to sixteen bytes, with a separator in front of the three digits before the point.
 #[inline(always)]
-fn value_in_groups<T: Integer>(
+fn value_in_groups<T: Integer, const CALLER: u8>(
     bytes: &[u8],
     format: &NumberFormat,
     place: usize,
@@ -112,17 +120,17 @@ fn value_in_groups<T: Integer>(
         (λ value. IsValueAround T.TYPE is_negative format.now place bytes.now (T.number value)) }
 {
     if bytes.len() <= 8 {
-        let number = number_in_groups(bytes, format, place)?;
+        let number = number_in_groups::<CALLER>(bytes, format, place)?;
         return value_to_8::<T>(number, is_negative);
     }
-    let (high, low) = numbers_in_groups(bytes, format, place)?;
+    let (high, low) = numbers_in_groups::<CALLER>(bytes, format, place)?;
     value_of_parts::<T>(high, low, 1_000_000, is_negative)
 }
 
 // The value of the digits around a point in four to sixteen bytes, if the type has it. The point is among the last eight, and
 // isn't the first byte nor the last.
 #[inline(always)]
-pub(crate) fn value_around_point<T: Integer>(
+pub(crate) fn value_around_point<T: Integer, const CALLER: u8>(
     bytes: &[u8],
     format: &NumberFormat,
     place: usize,
@@ -142,7 +150,7 @@ pub(crate) fn value_around_point<T: Integer>(
         if bytes.len() > place + 4 {
             return None;
         }
-        return value_in_groups::<T>(bytes, format, place, is_negative);
+        return value_in_groups::<T, CALLER>(bytes, format, place, is_negative);
     }
     value_around::<T>(bytes, place, is_negative)
 }

@@ -1,9 +1,11 @@
 // Whole texts by their last point: short ones by words. Of others the bytes before the point are read as a whole number under the
 // integer part's format, which may have a separator, or rules on zeros and signs. A fault in them is that of the text.
-ghost use Rattle.std.specs.Prelude.{◌≡◌, ◌≤◌, IfSome, IsNone, IsTrue, None, Ok, length};
+ghost use Rattle.std.specs.Prelude.{◌≡◌, ◌<◌, ◌≤◌, ◌^◌, IfSome, IsNone, IsTrue, None, Ok, length, true};
 ghost use Rattle.lexical_util.specs.Digit.{digit};
-ghost use Rattle.lexical_util.specs.Number.{HasSign};
+ghost use Rattle.lexical_util.specs.Number.{HasSign, IntegerType, IsNumber};
+ghost use Rattle.lexical_digits.specs.Value.{with_sign};
 ghost use Rattle.lexical_parse_integer.specs.Answer.{view_of};
+ghost use Rattle.lexical_fixed.specs.Around.{IsShortAmount};
 ghost use Rattle.lexical_fixed.specs.Grammar.{complete_fixed, integer_part, is_negative, whole_behind};
 ghost use Rattle.lexical_fixed.specs.Parted.{IsParted, IsToldBefore, point_place};
 ghost use Rattle.lexical_fixed.specs.Validity.{fixed_fault};
@@ -14,7 +16,8 @@ use crate::format::FixedFormat;
 use crate::fraction::{read_zeros, stands_at};
 use crate::parse::{is_negative, read_whole, whole_behind};
 use crate::parted::{places_written, point_place};
-use crate::short::behind_minus;
+use crate::quick::callers;
+use crate::short::{behind_minus, point_before};
 use lexical_laws::foreign_bytes;
 use lexical_parse_integer::laws::grammar::complete_by_partial;
 use lexical_parse_integer::quick::{complete_valid, keeps_zero_rule};
@@ -90,8 +93,38 @@ fn is_told_before(text: &[u8], format: &FixedFormat, error: Error) -> bool
     }
 }
 
-// The number of a short text with all places, which are seven at most: of digits alone, or, with one place or two, in groups of
-// three.
+// The value of up to sixteen bytes: digits around a point with all places behind it, which are seven at most. With up to three
+// places those before it may stand in groups of three.
+#[inline(always)]
+fn value_by_words<T: Integer, const CALLER: u8>(
+    digits: &[u8],
+    format: &FixedFormat,
+    count: usize,
+    is_negative: bool,
+) -> Option<T>
+    requires valid { IsNone (fixed_fault format.now) }
+    requires minus { IsTrue is_negative → IsTrue T.TYPE.is_signed }
+    ensures { IfSome result (λ value. IsShortAmount format.now T.TYPE is_negative digits.now count
+        (T.number value)) }
+{
+    if count != format.places() || count == 0 || count > 7 {
+        return None;
+    }
+    if format.integer().required_mantissa_sign() {
+        return None;
+    }
+    let size = digits.len();
+    if size < 4 || size < count + 2 || size > 16 {
+        return None;
+    }
+    let place = size - 1 - count;
+    if !keeps_zero_rule(format.integer(), &digits[..place]) {
+        return None;
+    }
+    value_around_point::<T, CALLER>(digits, format.integer(), place, is_negative)
+}
+
+// The number of a short text with all places, as `value_by_words` reads it.
 #[inline(always)]
 fn units_by_words<T: Integer>(text: &[u8], format: &FixedFormat, count: usize) -> Option<T>
     requires valid { IsNone (fixed_fault format.now) }
@@ -103,22 +136,39 @@ fn units_by_words<T: Integer>(text: &[u8], format: &FixedFormat, count: usize) -
     // The laws by which the point ends the integer part.
     foreign_bytes();
     complete_by_partial();
-    if count != format.places() || count == 0 || count > 7 {
-        return None;
-    }
-    if format.integer().required_mantissa_sign() {
-        return None;
-    }
     let (is_negative, digits) = behind_minus::<T>(text);
-    let size = digits.len();
-    if size < 4 || size < count + 2 || size > 16 {
+    value_by_words::<T, { callers::TEXT }>(digits, format, count, is_negative)
+}
+
+/// The number that a whole text stands for in each type that has it, and whether a minus stands in front: for most texts of up to
+/// sixteen bytes behind that, digits around a point with all places, which are seven at most. With up to three places, the digits
+/// before the point may stand in groups of three. `None` says nothing of the text.
+///
+/// `CALLER` is one of [`callers`](crate::quick::callers) but `TEXT`, and changes no answer.
+#[inline(always)]
+pub fn units_in_groups<const CALLER: u8>(
+    text: &[u8],
+    format: &FixedFormat,
+) -> Option<(bool, u64)>
+    requires valid { IsNone (fixed_fault format.now) }
+    ensures stands { IfSome result (λ found. (type : IntegerType)
+        → (IsTrue found.0 → type.is_signed ≡ true) → IsNumber type (with_sign found.0 found.1)
+        → complete_fixed format.now type text.now ≡ Ok (with_sign found.0 found.1)) }
+    ensures small { IfSome result (λ found. found.1 < 2 ^ 63) }
+{
+    // The laws by which the point ends the integer part.
+    foreign_bytes();
+    complete_by_partial();
+    if text.len() < 2 || char_is_digit(format.point(), 36) {
         return None;
     }
-    let place = size - 1 - count;
-    if !keeps_zero_rule(format.integer(), &digits[..place]) {
+    let count = format.places();
+    if point_before(text, format, count).is_none() {
         return None;
     }
-    value_around_point::<T>(digits, format.integer(), place, is_negative)
+    let (is_negative, digits) = behind_minus::<i64>(text);
+    let number = value_by_words::<i64, CALLER>(digits, format, count, false)?;
+    Some((is_negative, number as u64))
 }
 
 // What the text stands for, with `count` bytes behind the point that ends its integer part.

@@ -13,6 +13,7 @@ ghost use Rattle.lexical_fixed.specs.Quick.{IsFraction};
 ghost use Rattle.lexical_fixed.specs.Validity.{fixed_fault};
 
 use crate::append::append_number;
+pub use crate::by_point::units_in_groups;
 use crate::format::FixedFormat;
 use crate::fraction::stands_at;
 use crate::parse::is_negative;
@@ -24,7 +25,7 @@ use lexical_parse_integer::quick::front_if_plain;
 use lexical_parse_integer::stops_after_digit;
 use lexical_util::num::Integer;
 
-/// Who calls [`value_if_short`]. Each caller has a function of its own, which the compiler then inlines: of a large one with
+/// Who calls [`value_if_short`] or [`units_in_groups`]. Each caller has a function of its own, which the compiler then inlines: of a large one with
 /// several callers it makes a call.
 pub mod callers {
     /// One text under any description.

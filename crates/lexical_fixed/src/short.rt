@@ -102,7 +102,7 @@ pub(crate) fn value_around<T: Integer>(digits: &[u8], place: usize, is_negative:
 
 // The place of the point, if `count` bytes stand behind it, at least one, and at least one before it.
 #[inline(always)]
-fn point_before(digits: &[u8], format: &FixedFormat, count: usize) -> Option<usize>
+pub(crate) fn point_before(digits: &[u8], format: &FixedFormat, count: usize) -> Option<usize>
     requires { 2 ≤ length digits.now }
     ensures point { IfSome result (λ place. HasPoint format.now digits.now count) }
     ensures place { IfSome result (λ place. place ≡ length digits.now - 1 - count) }

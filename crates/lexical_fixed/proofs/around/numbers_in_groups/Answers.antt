@@ -9,7 +9,7 @@ use Rattle.lexical_fixed.proofs.AroundPoint.{around_apart, around_behind}
 use Rattle.lexical_fixed.proofs.around.numbers_in_groups.Goals as goal
 
 pub returns-in_ok-low-clause-around : goal.returns-in_ok-low-clause-around
-returns-in_ok-low-clause-around c =
+returns-in_ok-low-clause-around g c =
     let bytes = c.args.bytes.now in
     let first = length bytes - 8 in
     let low = c.in_ok-low.low in
@@ -24,7 +24,7 @@ returns-in_ok-low-clause-around c =
     joined (ap (λ n. 10 ^ n) six)
 
 pub returns-in_ok-low-2-clause-around : goal.returns-in_ok-low-2-clause-around
-returns-in_ok-low-2-clause-around c =
+returns-in_ok-low-2-clause-around g c =
     let bytes = c.args.bytes.now in
     let first = length bytes - 8 in
     let low = c.in_ok-low-2.low in

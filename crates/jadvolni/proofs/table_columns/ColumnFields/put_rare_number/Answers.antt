@@ -6,9 +6,10 @@ use Rattle.jadvolni.proofs.table_columns.ColumnFields.put_rare_number.Goals as g
 
 pub returns-then-self-ne0-clause-kept : goal.returns-then-self-ne0-clause-kept
 returns-then-self-ne0-clause-kept c = λ no.
-    number_kept c.args.row (record { start = 0; text = c.args.text.now }) (target_of c.args.self.now)
-    (target_of c.put_fixed_number.new.self)
-    (ap is_some (sym c.put_fixed_number.ensures.fault) ∙ c.is_none.ensures ∙ ap not no) c.put_fixed_number.ensures.target
+    number_kept c.args.row (record { start = 0; text = c.args.text.now }) (target_of c.put_in_groups.new.self)
+    (target_of c.put_fixed_parsed.new.self)
+    (ap is_some (sym c.put_fixed_parsed.ensures.fault) ∙ c.is_none.ensures ∙ ap not no) c.put_fixed_parsed.ensures.target
+    ∙ c.put_in_groups.ensures.kept c.if-put_in_groups.false
 
 pub returns-clause-kept : goal.returns-clause-kept
 returns-clause-kept c = λ no.

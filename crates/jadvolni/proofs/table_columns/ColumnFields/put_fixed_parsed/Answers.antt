@@ -8,7 +8,7 @@ use Rattle.lexical_parse_integer.specs.Answer.{view_of}
 use Rattle.lexical_tables.specs.Readings.{Number, answer_by, fixed_answer}
 use Rattle.jadvolni.specs.Tables.{reading_of}
 use Rattle.jadvolni.proofs.ColumnNumbers.{fault_there, fixed_point_answer, put_there, room_for, valid_fixed}
-use Rattle.jadvolni.proofs.table_columns.ColumnFields.put_fixed_number.Goals as goal
+use Rattle.jadvolni.proofs.table_columns.ColumnFields.put_fixed_parsed.Goals as goal
 
 none_is : (fault : Option FixedFormatError) → fault ≡ None → IsNone fault
 none_is None is = refl
