@@ -146,10 +146,7 @@ fn units_by_words<T: Integer>(text: &[u8], format: &FixedFormat, count: usize) -
 ///
 /// `CALLER` is one of [`callers`](crate::quick::callers) but `TEXT`, and changes no answer.
 #[inline(always)]
-pub fn units_in_groups<const CALLER: u8>(
-    text: &[u8],
-    format: &FixedFormat,
-) -> Option<(bool, u64)>
+pub fn units_in_groups<const CALLER: u8>(text: &[u8], format: &FixedFormat) -> Option<(bool, u64)>
     requires valid { IsNone (fixed_fault format.now) }
     ensures stands { IfSome result (λ found. (type : IntegerType)
         → (IsTrue found.0 → type.is_signed ≡ true) → IsNumber type (with_sign found.0 found.1)
