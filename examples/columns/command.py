@@ -5,7 +5,10 @@ is wrong. It is a module, and no program.
 import os
 import sys
 
-import jadvolni
+try:
+    import jadvolni
+except ModuleNotFoundError:
+    sys.exit("this needs jadvolni, which isn't installed: bindings/python/README.md says how")
 
 
 def ask(holds: bool, page: str) -> None:
@@ -62,6 +65,8 @@ def tell(path: str, answer) -> None:
         sys.exit(f"{path}: {error}")
     except MemoryError:
         sys.exit(f"{path}: there is not enough memory")
+    except KeyboardInterrupt:
+        sys.exit(130)  # (as a shell has it)
     except ModuleNotFoundError as error:
         sys.exit(f"this needs {error.name}, which isn't installed")
     said, bad_rows = said if isinstance(said, tuple) else (said, 0)

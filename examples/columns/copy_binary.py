@@ -4,10 +4,12 @@
     python3 copy_binary.py FILE > rows &&
     psql -c 'COPY ledger (day, cents) FROM STDIN BINARY' < rows
 
-DAY is 0 to 65535, and CENTS may be empty for NULL. The file may be of any size. Its first wrong
-cell is reported, the status is 1, and the rows end in one that COPY refuses: it loads none then.
-Don't pipe them into psql all the same: COPY asks for no end, and would load what a killed program
-wrote.
+DAY is 0 to 65535, NAME isn't copied, and CENTS may be empty for NULL. The columns have to be
+integer and bigint: COPY converts nothing, and would store other numbers in a numeric or a date.
+The file may be of any size. Its first wrong cell is reported, the status is 1, and the rows end in
+one that COPY refuses: it loads none then. Don't pipe them into psql all the same, nor by psql's
+\\copy .. from program: COPY asks for no end, and would load what a killed program wrote. COPY ..
+FROM PROGRAM, on the server, asks for the status.
 """
 
 import struct

@@ -38,7 +38,7 @@ class Task(unittest.TestCase):
     def file(self, content, name="input"):
         """The path of a file with this text."""
         path = self.folder / name
-        path.write_bytes(content.encode())
+        path.write_bytes(content if isinstance(content, bytes) else content.encode())
         return str(path)
 
     def answer(self, task, path, *words):
@@ -231,6 +231,11 @@ class ToSqlite(Task):
         with contextlib.closing(sqlite3.connect(path)) as database:
             return database.execute("SELECT * FROM ledger").fetchall()
 
+    def tables(self, path):
+        """The names of a database's tables."""
+        with contextlib.closing(sqlite3.connect(path)) as database:
+            return database.execute("SELECT name FROM sqlite_master").fetchall()
+
     def test_rows(self):
         database = str(self.folder / "database")
         path = self.file("1;rent;-80000\n65535;caf\u00e9;\n")
@@ -246,7 +251,32 @@ class ToSqlite(Task):
         path = self.file("1;a;1\n" * 250_000 + "2;b;x\n")
         told = 'FILE, line 250001, "cents": "x": invalid digit at byte 0 of the cell\n'
         self.assertEqual(self.answer("to_sqlite.py", path, database), (1, "", told))
-        self.assertEqual(self.rows(database), [])
+        self.assertEqual(self.tables(database), [])
+        good = self.file("1;a;1\n", "good")
+        self.assertEqual(self.answer("to_sqlite.py", good, database), (0, "1 rows\n", ""))
+        self.assertEqual(self.answer("to_sqlite.py", path, database), (1, "", told))
+        self.assertEqual(self.rows(database), [(1, "a", 1)])
+
+    def test_a_text_that_is_no_utf_8(self):
+        database = str(self.folder / "database")
+        path = self.file(b"1;a;1\n" * 3 + b"2;caf\xe9;4\n")
+        status, output, errors = self.answer("to_sqlite.py", path, database)
+        self.assertEqual((status, output, self.tables(database)), (1, "", []))
+        self.assertRegex(errors, "in row 4 of the table\n$")
+
+    def test_a_file_that_is_none(self):
+        database = self.folder / "database"
+        status, _, errors = self.answer("to_sqlite.py", str(self.folder / "none"), str(database))
+        self.assertEqual((status, database.exists()), (1, False), errors)
+
+    def test_a_table_with_other_columns(self):
+        database = str(self.folder / "database")
+        with contextlib.closing(sqlite3.connect(database)) as made:
+            columns = "id INTEGER PRIMARY KEY, cents INTEGER, day INTEGER, name TEXT"
+            made.execute(f"CREATE TABLE ledger ({columns})")
+        path = self.file("7;a;-5\n8;b;\n")
+        self.assertEqual(self.answer("to_sqlite.py", path, database), (0, "2 rows\n", ""))
+        self.assertEqual(self.rows(database), [(1, -5, 7, "a"), (2, None, 8, "b")])
 
     def test_a_database_that_is_none(self):
         for folder in self.folder, self.folder / "none" / "database":

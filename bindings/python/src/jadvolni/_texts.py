@@ -60,7 +60,7 @@ class TextColumn(Sequence["Cell"]):
     """The texts of a column, a sequence of str, with None for each that is missing.
 
     They are decoded when asked for; UnicodeDecodeError is then raised for bytes that the encoding
-    doesn't have. If the encoding is None, they are bytes.
+    doesn't have, and its reason names the row. If the encoding is None, they are bytes.
 
     data: The bytes of all texts, one after another. offsets: Where each starts in them, and where
     the last one stops. bits: Those of a Sparse, or None if no text may be missing.
@@ -99,7 +99,13 @@ class TextColumn(Sequence["Cell"]):
         if self.bits is not None and not self.bits[row >> 3] >> (row & 7) & 1:
             return None
         text = self.data[start:stop]
-        return bytes(text) if self.encoding is None else text.decode(self.encoding)
+        if self.encoding is None:
+            return bytes(text)
+        try:
+            return text.decode(self.encoding)
+        except UnicodeDecodeError as error:
+            error.reason += f", in row {row + 1} of the table"
+            raise
 
     def __iter__(self) -> Iterator[Cell]:
         places = self.offsets.tolist()
@@ -113,7 +119,10 @@ class TextColumn(Sequence["Cell"]):
         is_utf8 = self.encoding is not None and codecs.lookup(self.encoding).name == "utf-8"
         if not is_utf8 and self.encoding is not None:
             return list(self)
-        found = _text_list(self.data, self.offsets, self.bits, len(self), is_utf8)
+        try:
+            found = _text_list(self.data, self.offsets, self.bits, len(self), is_utf8)
+        except UnicodeDecodeError:  # (which is raised below, with its row)
+            found = None
         return list(self) if found is None else found
 
     def to_numpy(self) -> numpy.ndarray[Any, Any]:
