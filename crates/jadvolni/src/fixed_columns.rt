@@ -11,7 +11,7 @@ ghost use Rattle.jadvolni.specs.Tables.{put_number, target_of};
 
 use crate::table_columns::ColumnFields;
 use lexical_fixed::FixedFormat;
-use lexical_fixed::quick::{callers, units_in_groups};
+use lexical_fixed::quick::units_in_groups;
 use lexical_parse_integer::Error;
 use lexical_tables::codes::{AT_ONCE, PARSED};
 use lexical_tables::{breaks_zero_rule, is_quick, units_of_front};
@@ -119,10 +119,7 @@ impl ColumnFields<'_> {
         let Some(numbers) = self.arrays.number_type() else {
             return false;
         };
-        let Some((is_negative, units)) = units_in_groups::<{ callers::CELL }>(
-            text,
-            &self.description.separated(),
-        ) else {
+        let Some((is_negative, units)) = units_in_groups(text, &self.description.separated()) else {
             return false;
         };
         self.arrays.put_coded(numbers, row, is_negative, units)

@@ -1,8 +1,8 @@
 // Whole texts by their last point: short ones by words. Of others the bytes before the point are read as a whole number under the
 // integer part's format, which may have a separator, or rules on zeros and signs. A fault in them is that of the text.
-ghost use Rattle.std.specs.Prelude.{◌≡◌, ◌<◌, ◌≤◌, ◌^◌, IfSome, IsNone, IsTrue, None, Ok, length, true};
+ghost use Rattle.std.specs.Prelude.{◌≡◌, ◌<◌, ◌≤◌, ◌^◌, IfSome, IsNone, IsTrue, None, Ok, false, length, true};
 ghost use Rattle.lexical_util.specs.Digit.{digit};
-ghost use Rattle.lexical_util.specs.Number.{HasSign, IntegerType, IsNumber};
+ghost use Rattle.lexical_util.specs.Number.{HasSign, IntegerType, IsNumber, integer_type};
 ghost use Rattle.lexical_digits.specs.Value.{with_sign};
 ghost use Rattle.lexical_parse_integer.specs.Answer.{view_of};
 ghost use Rattle.lexical_fixed.specs.Around.{IsShortAmount};
@@ -140,13 +140,21 @@ fn units_by_words<T: Integer>(text: &[u8], format: &FixedFormat, count: usize) -
     value_by_words::<T, { callers::TEXT }>(digits, format, count, is_negative)
 }
 
+// The number of a cell's digits, as `value_by_words` reads it. Out of line: inlined, it makes the reader of the cell too large.
+#[inline(never)]
+fn number_of_cell(digits: &[u8], format: &FixedFormat, count: usize) -> Option<i64>
+    requires valid { IsNone (fixed_fault format.now) }
+    ensures { IfSome result
+        (λ value. IsShortAmount format.now (integer_type 64 true) false digits.now count value) }
+{
+    value_by_words::<i64, { callers::CELL }>(digits, format, count, false)
+}
+
 /// The number that a whole text stands for in each type that has it, and whether a minus stands in front: for most texts of up to
 /// sixteen bytes behind that, digits around a point with all places, which are seven at most. With up to three places, the digits
 /// before the point may stand in groups of three. `None` says nothing of the text.
-///
-/// `CALLER` is one of [`callers`](crate::quick::callers) but `TEXT`, and changes no answer.
 #[inline(always)]
-pub fn units_in_groups<const CALLER: u8>(text: &[u8], format: &FixedFormat) -> Option<(bool, u64)>
+pub fn units_in_groups(text: &[u8], format: &FixedFormat) -> Option<(bool, u64)>
     requires valid { IsNone (fixed_fault format.now) }
     ensures stands { IfSome result (λ found. (type : IntegerType)
         → (IsTrue found.0 → type.is_signed ≡ true) → IsNumber type (with_sign found.0 found.1)
@@ -164,7 +172,7 @@ pub fn units_in_groups<const CALLER: u8>(text: &[u8], format: &FixedFormat) -> O
         return None;
     }
     let (is_negative, digits) = behind_minus::<i64>(text);
-    let number = value_by_words::<i64, CALLER>(digits, format, count, false)?;
+    let number = number_of_cell(digits, format, count)?;
     Some((is_negative, number as u64))
 }
 

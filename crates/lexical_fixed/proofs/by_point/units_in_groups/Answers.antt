@@ -4,7 +4,7 @@ use Rattle.lexical_fixed.proofs.AmountsAround.{no_value, parted_there, units_in,
 use Rattle.lexical_fixed.proofs.by_point.units_in_groups.Goals as goal
 
 pub returns-clause-stands : goal.returns-clause-stands
-returns-clause-stands g c =
+returns-clause-stands c =
     let format = c.args.format.now in
     let short = c.in_ok-number.ensures in
     let is = without_sign short.around.number c.in_ok-number.number short.around.worth short.around.fits in
