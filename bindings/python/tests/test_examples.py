@@ -8,6 +8,7 @@ import pathlib
 import re
 import resource
 import shutil
+import signal
 import subprocess
 import sys
 import tempfile
@@ -432,6 +433,30 @@ class Inputs(Case):
             (self.folder / f"{module}.py").write_text(f"raise ModuleNotFoundError(name='{module}')")
             answer = answer_of(name, path, env=where)
             self.assertEqual(answer, (1, "", f"this needs {module}, which isn't installed\n"))
+
+    def test_no_binding(self):
+        for name, *words in (*COMMANDS, ("accounts.py",), ("copy_binary.py",)):
+            # Without the packages that are installed, and without PYTHONPATH.
+            command = [sys.executable, "-S", "-E", str(EXAMPLES / name), os.devnull, *words]
+            run = subprocess.run(command, capture_output=True, text=True, timeout=60)
+            self.assertEqual((run.returncode, run.stdout), (1, ""))
+            self.assertEqual(run.stderr, "this needs jadvolni, which isn't installed:"
+                             " bindings/python/README.md says how\n")
+
+    def test_an_interrupt(self):
+        """A program that waits for input ends as the shell's own commands do."""
+        path = self.folder / "pipe"
+        os.mkfifo(path)
+        default = functools.partial(signal.signal, signal.SIGINT, signal.SIG_DFL)
+        for name, *words in COMMANDS:
+            with self.subTest(name=name):
+                command = [sys.executable, str(EXAMPLES / name), str(path), *words]
+                with subprocess.Popen(command, stdout=subprocess.PIPE, stderr=subprocess.PIPE,
+                                      preexec_fn=default) as run:
+                    with open(path, "wb"):  # (which waits until the program has opened it)
+                        run.send_signal(signal.SIGINT)
+                        answer = run.communicate(timeout=60)
+                self.assertEqual((run.returncode, answer), (130, (b"", b"")))
 
     def test_a_closed_output(self):
         for (name, *words), content in zip((*COMMANDS, ("copy_binary.py",)), (*CONTENTS, "1;a;2")):

@@ -259,10 +259,11 @@ class ToSqlite(Task):
 
     def test_a_text_that_is_no_utf_8(self):
         database = str(self.folder / "database")
-        path = self.file(b"1;a;1\n" * 3 + b"2;caf\xe9;4\n")
-        status, output, errors = self.answer("to_sqlite.py", path, database)
-        self.assertEqual((status, output, self.tables(database)), (1, "", []))
-        self.assertRegex(errors, "in row 4 of the table\n$")
+        for rows in 3, 250_000:
+            path = self.file(b"1;a;1\n" * rows + b"2;caf\xe9;4\n")
+            status, output, errors = self.answer("to_sqlite.py", path, database)
+            self.assertEqual((status, output, self.tables(database)), (1, "", []))
+            self.assertRegex(errors, f"in row {rows + 1} of the table\n$")
 
     def test_a_file_that_is_none(self):
         database = self.folder / "database"

@@ -111,6 +111,16 @@ class Texts(unittest.TestCase):
         for ask in (lambda: wrong[1], wrong.tolist, lambda: wrong[:2], wrong.__arrow_c_array__):
             self.assertRaises(UnicodeDecodeError, ask)
 
+    def test_the_row_of_a_text_that_is_none(self):
+        """It counts over the tables of a file, and over the rows that weren't skipped."""
+        text = b"a,1\n" * 5 + b"a,x\n" + b"b,2\n" * 4 + b"\xfc,3\n" + b"c,4\n" * 5
+        for rows, threads in itertools.product((1, 3, 99), (1, 2)):
+            given = {"rows": rows, "threads": threads, "on_error": "skip"}
+            with self.assertRaises(UnicodeDecodeError) as raised:
+                for table in iter_table(io.BytesIO(text), BOTH, **given):
+                    list(table["what"])
+            self.assertRegex(raised.exception.reason, ", in row 10 of the table$")
+
     def test_widths_and_records(self):
         for text, given in ((b"ab 1\nc  2\n", {}), (b"ab 1c  2", {"is_records": True})):
             table = parse_table(text, BOTH, widths=[3, 1], **given)

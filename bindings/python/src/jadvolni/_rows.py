@@ -151,11 +151,12 @@ class Rows:
                 self.arrays[name].data.extend(values.data)
         self.count, self.bad = self.count + other.count, self.bad + other.bad
 
-    def table(self) -> Table:
-        """The rows as a table of its own arrays."""
+    def table(self, before: int = 0) -> Table:
+        """The rows as a table of its own arrays. `before` rows stand in tables before it."""
         if not self.room:
             self.grow(0)
-        return self._counted({name: _front(it, self.count) for name, it in self.arrays.items()})
+        return self._counted(
+            {name: _front(it, self.count, before) for name, it in self.arrays.items()})
 
     def fronts(self) -> Table:
         """The rows as a table over the caller's arrays."""
@@ -180,10 +181,10 @@ def _view(values: Any, count: int) -> Any:
     return values if len(values) == count else values[:count]
 
 
-def _front(values: Any, count: int) -> Any:
-    """The first `count` rows of a column, whose arrays are cut there."""
+def _front(values: Any, count: int, before: int = 0) -> Any:
+    """The first `count` rows of a column, whose arrays are cut there, after `before` others."""
     numbers, bits = pair_of(values)
     numbers, bits = cut(numbers, count), None if bits is None else cut(bits, (count + 7) // 8)
     if isinstance(values, Room):
-        return TextColumn(values.data, offsets_of(numbers), bits, values.encoding)
+        return TextColumn(values.data, offsets_of(numbers), bits, values.encoding, before)
     return with_pair(values, numbers, bits)

@@ -385,13 +385,16 @@ def iter_table(
     ask_progress(progress)
     asked = _Asked(columns, how, at, header, threads, progress=progress)
     reader, blocks, start = _opened(file, asked, size, threads, size)
+    count = 0
     if threads > 1:
         for all_found, _ in _told_rows(asked, reader, blocks, start, rows, threads):
             for found in all_found:
                 if found.end > found.row:
-                    yield found.table()
+                    yield found.table(count)
+                    count += found.count
         return
     for found in read_texts(reader, blocks, rows, 0):
         if found.end > found.row:
-            yield found.table()
+            yield found.table(count)
+            count += found.count
         found.raise_fault()

@@ -60,17 +60,25 @@ class TextColumn(Sequence["Cell"]):
     """The texts of a column, a sequence of str, with None for each that is missing.
 
     They are decoded when asked for; UnicodeDecodeError is then raised for bytes that the encoding
-    doesn't have, and its reason names the row. If the encoding is None, they are bytes.
+    doesn't have, and its reason names the row, counted from 1 over all tables of an iter_table,
+    without bad rows. If the encoding is None, they are bytes.
 
     data: The bytes of all texts, one after another. offsets: Where each starts in them, and where
     the last one stops. bits: Those of a Sparse, or None if no text may be missing.
     These are laid out as Arrow has them. A part by `column[1:3]` is a list.
+    before: How many rows stand before them, in tables of the same file.
     """
 
     def __init__(
-        self, data: bytearray, offsets: Any, bits: Any = None, encoding: Optional[str] = "utf-8"
+        self,
+        data: bytearray,
+        offsets: Any,
+        bits: Any = None,
+        encoding: Optional[str] = "utf-8",
+        before: int = 0,
     ) -> None:
         self.data, self.offsets, self.bits, self.encoding = data, offsets, bits, encoding
+        self.before = before
 
     def __len__(self) -> int:
         return len(self.offsets) - 1
@@ -104,7 +112,7 @@ class TextColumn(Sequence["Cell"]):
         try:
             return text.decode(self.encoding)
         except UnicodeDecodeError as error:
-            error.reason += f", in row {row + 1} of the table"
+            error.reason += f", in row {self.before + row + 1} of the table"
             raise
 
     def __iter__(self) -> Iterator[Cell]:
