@@ -25,8 +25,8 @@ use lexical_parse_integer::quick::front_if_plain;
 use lexical_parse_integer::stops_after_digit;
 use lexical_util::num::Integer;
 
-/// Who calls [`value_if_short`], and the readers of digits below it. Each caller has a function of its own, which the compiler then inlines: of a large one with
-/// several callers it makes a call.
+/// Who calls [`value_if_short`], and the readers of digits below it. Each caller has a function of its own, which the
+/// compiler then inlines: of a large one with several callers it makes a call.
 pub mod callers {
     /// One text under any description.
     pub const TEXT: u8 = 0;

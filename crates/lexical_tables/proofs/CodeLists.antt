@@ -1,10 +1,10 @@
 -- The codes of columns, put one after another.
-use Rattle.std.proofs.Common.{◌≡◌, ◌+◌, ◌<◌, ℕ, false, List, [], ◌∷◌, length, get_or, map, set, Option, None, refl, subst, sym, arith, inl, inr}
+use Rattle.std.proofs.Common.{◌≡◌, ◌∙◌, ◌+◌, ◌<◌, ◌≤◌, ℕ, false, List, [], ◌∷◌, length, length-set, get_or, map, set, Option, None, ap, refl, subst, sym, arith, inl, inr}
 use Rattle.std.proofs.lemmas.Bool.Decides.{eqb_tells}
 use Rattle.std.proofs.lemmas.List.{get_or-map, get_or-set_other, get_or-set_same}
 use Rattle.std.specs.Prelude.{slice_index}
 use Rattle.lexical_tables.specs.Cells.{ends_in_digit}
-use Rattle.lexical_tables.specs.Codes.{IsCodeIn}
+use Rattle.lexical_tables.specs.Codes.{AreStandard, IsCodeIn}
 use Rattle.lexical_tables.specs.Targets.{TargetView}
 use Rattle.lexical_tables.specs.declared.dialect.Dialect.{Dialect}
 
@@ -31,3 +31,13 @@ below_next target dialect count codes columns code d are room low is = record {
         (sym (get_or-set_other codes count k code 0 other.1)) (are.at k (omega (arith, few, other.1)) there)
   ];
 }
+
+-- so they are those of types, without a rule on zeros, if the next one is
+pub standard_next : (count : ℕ) (codes : List ℕ) (code : ℕ) → AreStandard count codes → count < length codes
+    → (8 ≤ code) × (code < 32) → AreStandard (count + 1) (set codes count code)
+standard_next count codes code are room is = λ k within few. elim (eqb_tells k count) [
+  | inl same ↦ subst (λ n. (8 ≤ n) × (n < 32))
+      (sym (ap (slice_index (set codes count code)) same.1 ∙ get_or-set_same codes count code 0 room)) is
+  | inr other ↦ subst (λ n. (8 ≤ n) × (n < 32)) (sym (get_or-set_other codes count k code 0 other.1))
+      (are k (omega (arith, within, length-set codes count code)) (omega (arith, few, other.1)))
+]

@@ -96,9 +96,8 @@ parsed_code dialect code target is five = record {
 }
 
 -- and where a cell is its number, that of bare ones
-pub bare_code : (dialect : Dialect) (target : Option TargetView) → IsCode 5 target → dialect.has_quotes ≡ false
-    → dialect.allows_blanks ≡ false → has_bits target ≡ false → IsCodeIn dialect 6 target
-bare_code dialect target is quotes blanks bits = record {
+pub bare_code : (dialect : Dialect) (target : Option TargetView) → IsCode 5 target → dialect.allows_blanks ≡ false → has_bits target ≡ false → IsCodeIn dialect 6 target
+bare_code dialect target is blanks bits = record {
   column = record {
     unread = λ one. absurd (omega (arith, one));
     texts = λ two. absurd (omega (arith, two));
@@ -108,7 +107,7 @@ bare_code dialect target is quotes blanks bits = record {
   };
   no_number = λ more. absurd (omega (arith, more));
   amounts = λ four. absurd (omega (arith, four));
-  bare = λ six. record { numbers = is.parsed refl; no_quotes = quotes; no_blanks = blanks; no_bits = bits };
+  bare = λ six. record { numbers = is.parsed refl; no_blanks = blanks; no_bits = bits };
 }
 
 -- integers under any format may be parsed
@@ -225,7 +224,6 @@ same_bare : (dialect : Dialect) (old new : Option TargetView) → option_map kin
     → IsBareIn dialect old → IsBareIn dialect new
 same_bare dialect old new same is = record {
   numbers = sym (numbers_are new) ∙ ap are_numbers same ∙ numbers_are old ∙ is.numbers;
-  no_quotes = is.no_quotes;
   no_blanks = is.no_blanks;
   no_bits = sym (misses new) ∙ ap may_miss same ∙ misses old ∙ is.no_bits;
 }

@@ -4,12 +4,15 @@ use Rattle.std.specs.Prelude.{option_map, ⊤}
 use Rattle.std.specs.Str.{bytes_eq}
 use Rattle.lexical_util.specs.declared.error.Error.{Error}
 use Rattle.lexical_fields.specs.Fields.{FieldView}
+use Rattle.lexical_fields.specs.Places.{in_text}
 use Rattle.lexical_fields.specs.ReadFields.{field_answer}
+use Rattle.lexical_fields.proofs.MovedFields.{answer_moved}
+use Rattle.lexical_fixed.specs.Grammar.{complete_fixed}
 use Rattle.lexical_parse_integer.specs.Answer.{view_of}
 use Rattle.lexical_tables.specs.ByColumn.{IsUsable, fault_in, kind_of, put_read}
 use Rattle.lexical_tables.specs.Cells.{Kind, answer_as, content, quote_fault, some_value, unless, value_at}
-use Rattle.lexical_tables.specs.Readings.{FixedPoints, Integers, Number, Reading, Text, Texts, Value, fixed_answer, keeps_texts, value_by}
-use Rattle.lexical_tables.specs.Targets.{TargetView, has_numbers}
+use Rattle.lexical_tables.specs.Readings.{FixedPoints, Integers, IsValid, Number, Reading, Text, Texts, Value, answer_by, fixed_answer, keeps_texts, value_by}
+use Rattle.lexical_tables.specs.Targets.{TargetView, error_in, has_numbers}
 use Rattle.lexical_tables.specs.declared.answers.CellFault.{CellFault}
 use Rattle.lexical_tables.specs.declared.dialect.Dialect.{Dialect}
 use Rattle.lexical_tables.proofs.ColumnsInParts.{answer_behind, cell_moved}
@@ -58,6 +61,10 @@ same_behind bytes (Ok (Some (Number number))) textless right = refl
 same_behind bytes (Ok (Some (Text text))) textless right = absurd textless
 same_behind bytes (Err fault) textless right = absurd cc
 
+pub not_true : (b : Bool) → not b ≡ true → b ≡ false
+not_true true is = absurd cc
+not_true false is = refl
+
 -- What a cell of numbers is read as at the start of a text is so at each place.
 pub record IsReadAnywhere (d : Dialect) (row start : ℕ) (text : List ℕ) (old new : Option TargetView) : Type 0 where
   pub fault : fault_in (answer_as d (option_map kind_of old) (record { start = start; text = text })) ≡ None
@@ -83,7 +90,27 @@ read_anywhere d row start text (Some target) new numbers usable right put =
       fault = ap fault_in same ∙ right;
       target = put ∙ ap (λ answer. option_map (put_read row answer) (Some target)) (sym same);
     }
-  where
-    not_true : (b : Bool) → not b ≡ true → b ≡ false
-    not_true true is = absurd cc
-    not_true false is = refl
+
+right_anywhere : (start : ℕ) (answer : Result ℤ Error) → error_in (view_of Number answer) ≡ None
+    → view_of Number (in_text start answer) ≡ view_of Number answer
+right_anywhere start (Ok number) right = refl
+right_anywhere start (Err error) right = absurd cc
+
+fixed_anywhere : (start : ℕ) (answer : Result ℤ Error) → error_in (view_of Number (in_text 0 answer)) ≡ None
+    → view_of Number (in_text start answer) ≡ view_of Number (in_text 0 answer)
+fixed_anywhere start (Ok number) right = refl
+fixed_anywhere start (Err error) right = absurd cc
+
+-- So is what a text stands for, if that is a number.
+pub number_anywhere : (start : ℕ) (reading : Reading) (text : List ℕ) → IsValid reading → keeps_texts reading ≡ false
+    → error_in (answer_by reading (record { start = 0; text = text })) ≡ None
+    → answer_by reading (record { start = start; text = text }) ≡ answer_by reading (record { start = 0; text = text })
+number_anywhere start (Integers format type) text valid numbers right =
+    let here : FieldView = record { start = 0; text = text } in
+    let at : start ≡ start + 0 = omega arith in
+    ap (λ place. view_of Number (field_answer format type (record { start = place; text = text }))) at
+    ∙ ap (view_of Number) (sym (answer_moved format type start valid here))
+    ∙ right_anywhere start (field_answer format type here) right
+number_anywhere start (FixedPoints fixed type) text valid numbers right =
+    fixed_anywhere start (complete_fixed fixed type text) right
+number_anywhere start Texts text valid numbers right = absurd cc

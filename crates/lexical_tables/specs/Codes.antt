@@ -2,7 +2,7 @@
 -- 0: nothing is known, and the column is asked at each cell. 1: its cells aren't read. 2: they are
 -- texts. 3: they are numbers, which the column is asked for at each cell. 4: they are amounts,
 -- which it reads as such. 5: they are numbers, which it parses. 6: they are numbers, which it
--- parses, and each cell is a number alone, without quotes, blanks or a mark. 8 and more: decimal
+-- parses, and each cell is a number, alone or within quotes, without blanks or a mark. 8 and more: decimal
 -- digits behind an optional minus are read as numbers of u8, u16, u32, u64, i8, i16, i32 or i64, in
 -- this order, whatever else the format allows. 16 is added where a number may be missing, and 32
 -- where no zero may stand in front of another digit.
@@ -63,10 +63,9 @@ pub record IsCode (code : ℕ) (target : Option TargetView) : Type 0 where
   pub parsed : code ≡ 5 → has_numbers target ≡ true
   pub read : 8 ≤ code → IsReadAs code target
 
--- In a column of numbers whose cells are bare, neither quotes, blanks nor a mark stand in these.
+-- In a column of bare numbers neither blanks nor a mark stand in cells.
 pub record IsBareIn (dialect : Dialect) (target : Option TargetView) : Type 0 where
   pub numbers : has_numbers target ≡ true
-  pub no_quotes : dialect.has_quotes ≡ false
   pub no_blanks : dialect.allows_blanks ≡ false
   pub no_bits : has_bits target ≡ false
 
@@ -82,6 +81,11 @@ pub record IsCodeIn (dialect : Dialect) (code : ℕ) (target : Option TargetView
 abbrev pub AreCodes : Dialect → List ℕ → List (Option TargetView) → Type 0
 AreCodes dialect codes targets = (k : ℕ) → k < length codes → k < length targets
     → IsCodeIn dialect (slice_index codes k) (get_or targets k None)
+
+-- the first columns have codes of types, and no rule on zeros
+abbrev pub AreStandard : ℕ → List ℕ → Type 0
+AreStandard count codes = (k : ℕ) → k < length codes → k < count
+    → (8 ≤ slice_index codes k) × (slice_index codes k < 32)
 
 -- `count` quotes stand on each side of what a cell holds: none, or one, where quotes have a meaning
 -- and the cell begins and ends with one.

@@ -2,7 +2,7 @@
 
 ghost use Rattle.std.specs.Prelude.{◌≡◌, ◌+◌, ◌<◌, ◌≤◌, ◌^◌, ℕ, IsTrue, None, false, get_or, is_none, length, map, option_map, slice_index, take};
 ghost use Rattle.lexical_tables.specs.ByColumn.{AreUsable, answer_at, fault_in, kinds_of, put_read_at, wrong_cell};
-ghost use Rattle.lexical_tables.specs.Codes.{AreCodes, IsCodeIn};
+ghost use Rattle.lexical_tables.specs.Codes.{AreCodes, AreStandard, IsCodeIn};
 
 use crate::answers::TableError;
 use crate::by_column::read_by_column;
@@ -17,7 +17,12 @@ use lexical_parse_integer::Options;
 
 // Reads the cell of a column at once, the first `size` bytes of a text, by the column's code, and returns whether it did.
 #[inline(always)]
-pub(crate) fn read_coded_cell<C: TableColumn, const HAS_QUOTES: bool, const HAS_CALLS: bool>(
+pub(crate) fn read_coded_cell<
+    C: TableColumn,
+    const HAS_QUOTES: bool,
+    const ALL_STANDARD: bool,
+    const HAS_CALLS: bool,
+>(
     targets: &mut [C],
     codes: &[u8; CODED],
     column: usize,
@@ -30,6 +35,7 @@ pub(crate) fn read_coded_cell<C: TableColumn, const HAS_QUOTES: bool, const HAS_
 ) -> bool
     requires quotes { dialect.now.has_quotes ≡ HAS_QUOTES }
     requires codes { AreCodes dialect.now codes.now (map C.target targets.old) }
+    requires standard { IsTrue ALL_STANDARD → AreStandard (column + 1) codes.now }
     requires usable { AreUsable (row + 1) (map C.target targets.old) }
     requires room { size + 17 ≤ length ahead.now }
     requires fits { start + size < 2 ^ 64 }
@@ -47,7 +53,7 @@ pub(crate) fn read_coded_cell<C: TableColumn, const HAS_QUOTES: bool, const HAS_
     if column >= targets.len() {
         return false;
     }
-    read_coded::<C, HAS_QUOTES, HAS_CALLS>(
+    read_coded::<C, HAS_QUOTES, ALL_STANDARD, HAS_CALLS>(
         &mut targets[column],
         codes[column],
         row,

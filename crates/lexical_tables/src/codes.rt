@@ -7,7 +7,8 @@
 
 ghost use Rattle.std.specs.Prelude.{◌≡◌, ◌<◌, ◌≤◌, Some, is_some, length, map, slice_index};
 ghost use Rattle.lexical_tables.specs.Cells.{ends_in_digit};
-ghost use Rattle.lexical_tables.specs.Codes.{AreCodes, IsCode, IsCodeIn, coded_type, has_coded_bits};
+ghost use Rattle.lexical_tables.specs.Codes.{AreCodes, AreStandard, IsCode, IsCodeIn, coded_type, has_coded_bits};
+ghost use Rattle.lexical_tables.specs.declared.codes.Loop.TheVariants.{Standard};
 ghost use Rattle.lexical_tables.specs.Readings.{Integers};
 ghost use Rattle.lexical_tables.specs.Targets.{TargetView};
 
@@ -36,8 +37,8 @@ pub(crate) const AMOUNTS: u8 = 4;
 /// The column's cells are numbers that `read_parsed` and `read_left` parse: `read_at_once` isn't asked for them.
 pub const PARSED: u8 = 5;
 
-// The column's cells are numbers which `TableColumn::read_parsed` parses: neither quotes, blanks nor a mark stand in them. A
-// table's reader says it, of a column that says `PARSED`.
+// The column's cells are numbers which `TableColumn::read_parsed` parses: neither blanks nor a mark stand in them. A table's
+// reader says it, of a column that says `PARSED`.
 pub(crate) const BARE: u8 = 6;
 
 /// Numbers of 8 bits without a sign.
@@ -100,6 +101,35 @@ pub fn has_bits(code: u8) -> bool
 // How many columns of a table may have a code. Those behind them are asked at each cell.
 pub(crate) const CODED: usize = 256;
 
+// Which loop reads the cells of a table, by the codes of its columns.
+#[derive(Copy, Clone)]
+pub(crate) enum Loop {
+    // Each column has the code of a type under the standard format: the loop asks for no other code.
+    Standard,
+    // No column is read by a call.
+    WithoutCalls,
+    // Texts, amounts or numbers of other formats are read by calls.
+    WithCalls,
+}
+
+// Which loop reads the columns that one reads, and one more that has a code.
+#[inline(always)]
+fn with_code(columns: Loop, code: u8) -> Loop
+    ensures columns { result ≡ Standard → columns ≡ Standard }
+    ensures code { result ≡ Standard → (8 ≤ code) × (code < 32) }
+{
+    if code >= U8 && code < WITH_ZERO_RULE {
+        return columns;
+    }
+    if code == TEXTS || code == AMOUNTS || code == PARSED || code == BARE {
+        return Loop::WithCalls;
+    }
+    match columns {
+        Loop::WithCalls => Loop::WithCalls,
+        _ => Loop::WithoutCalls,
+    }
+}
+
 // Whether a text's last byte is a decimal digit.
 #[tactic(auto, using(crate::proofs::CodeLists::no_digit))]
 fn ends_in_digit(text: &[u8]) -> bool
@@ -140,7 +170,7 @@ fn code_of_parsed<C: TableColumn>(target: &C, dialect: &Dialect<'_>) -> u8
     requires code { IsCode 5 (C.target target.now) }
     ensures { IsCodeIn dialect.now result (C.target target.now) }
 {
-    if dialect.has_quotes || dialect.allows_blanks || target.may_miss() {
+    if dialect.allows_blanks || target.may_miss() {
         return PARSED;
     }
     BARE
@@ -174,27 +204,25 @@ fn code_in<C: TableColumn>(target: &C, dialect: &Dialect<'_>, is_mark_number: bo
     code
 }
 
-// Asks each column that may have a code for it, and returns whether the cells of one are read by a
-// call.
+// Asks each column that may have a code for it, and returns which loop reads their cells.
 #[inline(never)]
 pub(crate) fn put_codes<C: TableColumn>(
     dialect: &Dialect<'_>,
     targets: &[C],
     codes: &mut [u8; CODED],
-) -> bool
-    ensures { AreCodes dialect.now codes.new (map C.target targets.now) }
+) -> Loop
+    ensures codes { AreCodes dialect.now codes.new (map C.target targets.now) }
+    ensures standard { result ≡ Standard → AreStandard (length targets.now) codes.new }
 {
     let is_mark_number = ends_in_digit(dialect.missing);
     let count = targets.len().min(CODED);
-    let mut has_calls = false;
+    let mut columns = Loop::Standard;
     for column in 0..count {
         let code = code_in(&targets[column], dialect, is_mark_number);
         codes[column] = code;
-        if code == TEXTS || code == AMOUNTS || code == PARSED || code == BARE {
-            has_calls = true;
-        }
+        columns = with_code(columns, code);
     }
-    has_calls
+    columns
 }
 
 // The code of a column. None is kept of those behind the coded ones.

@@ -1,17 +1,17 @@
 //! Cells of digits alone, whose numbers are put by their columns' codes.
 
-ghost use Rattle.std.specs.Prelude.{◌≡◌, ◌+◌, ◌-◌, ◌*◌, ◌<◌, ◌≤◌, ◌^◌, ℕ, IfSome, IsTrue, None, false, length, take, drop, option_map, true};
+ghost use Rattle.std.specs.Prelude.{◌≡◌, ◌+◌, ◌-◌, ◌*◌, ◌<◌, ◌≤◌, ◌^◌, nat_le, ℕ, IfSome, IsTrue, None, false, length, take, drop, option_map, true};
 ghost use Rattle.lexical_util.specs.Format.{Format};
 ghost use Rattle.lexical_fields.specs.Numerals.{IsNumeral};
 ghost use Rattle.lexical_tables.specs.Amounts.{IsAmountsIn};
 ghost use Rattle.lexical_tables.specs.ByColumn.{IsUsable, fault_in, kind_of, put_read};
 ghost use Rattle.lexical_tables.specs.Cells.{answer_as, quote_fault, view_of_cell};
-ghost use Rattle.lexical_tables.specs.Codes.{AreQuotesRound, IsCodeIn, IsDecimal, IsNumberPut, IsNumeralUnder, IsReadAs, has_zero_rule};
+ghost use Rattle.lexical_tables.specs.Codes.{AreQuotesRound, IsBareIn, IsCodeIn, IsDecimal, IsNumberPut, IsNumeralUnder, IsReadAs, has_zero_rule};
 
 use crate::codes::{AMOUNTS, BARE, NOT_READ, PARSED, TEXTS, U8, WITH_ZERO_RULE};
 use crate::content::{Cell, content};
 use crate::dialect::Dialect;
-use crate::known_cells::{read_bare_cell, read_parsed_cell, read_text_cell};
+use crate::known_cells::{read_parsed_cell, read_text_cell};
 use crate::quotes::shows_no_quote;
 use crate::targets::TableColumn;
 use lexical_fields::number_of_front;
@@ -60,12 +60,21 @@ fn shows_no_fault(ahead: &[u8], size: usize, has_quotes: bool) -> bool
 // Whether a text's first `size` bytes, digits behind an optional minus, keep the rule on zeros, if
 // the column's code has that rule.
 #[inline(always)]
-fn keeps_zero_rule(code: u8, ahead: &[u8], size: usize, is_negative: bool) -> bool
+fn keeps_zero_rule<const ALL_STANDARD: bool>(
+    code: u8,
+    ahead: &[u8],
+    size: usize,
+    is_negative: bool,
+) -> bool
+    requires standard { IsTrue ALL_STANDARD → code < 32 }
     requires room { size + 17 ≤ length ahead.now }
     ensures { IsTrue result → (format : Format) (number : ℕ) → IsDecimal format (has_zero_rule code)
         → IsNumeral is_negative number (take size ahead.now)
         → IsNumeralUnder format is_negative number (take size ahead.now) }
 {
+    if ALL_STANDARD {
+        return true;
+    }
     if code < WITH_ZERO_RULE {
         return true;
     }
@@ -76,14 +85,19 @@ fn keeps_zero_rule(code: u8, ahead: &[u8], size: usize, is_negative: bool) -> bo
 // The number of a text's first `size` bytes with its sign, as `number_of_front` has it, if the digits keep the rule on zeros, where
 // the column's code has that rule.
 #[inline(always)]
-pub(crate) fn coded_number(code: u8, ahead: &[u8], size: usize) -> Option<(bool, u64)>
+pub(crate) fn coded_number<const ALL_STANDARD: bool>(
+    code: u8,
+    ahead: &[u8],
+    size: usize,
+) -> Option<(bool, u64)>
+    requires standard { IsTrue ALL_STANDARD → code < 32 }
     requires room { size + 17 ≤ length ahead.now }
     ensures numeral { IfSome result (λ found. (format : Format)
         → IsDecimal format (has_zero_rule code)
         → IsNumeralUnder format found.0 found.1 (take size ahead.now)) }
     ensures small { IfSome result (λ found. found.1 < 2 ^ 63) }
 {
-    if !keeps_zero_rule(code, ahead, size, ahead[0] == b'-') {
+    if !keeps_zero_rule::<ALL_STANDARD>(code, ahead, size, ahead[0] == b'-') {
         return None;
     }
     number_of_front(ahead, size)
@@ -143,11 +157,58 @@ fn read_amount<C: TableColumn, const HAS_QUOTES: bool>(
     target.read_amount(row, held, count)
 }
 
+// Reads a cell of a column of bare numbers, the first `size` bytes of a text, where it is one, and no quote stands in it but
+// round the number, and returns whether it did.
+#[inline(always)]
+fn read_bare_cell<C: TableColumn, const HAS_QUOTES: bool>(
+    target: &mut C,
+    row: usize,
+    ahead: &[u8],
+    size: usize,
+    dialect: &Dialect<'_>,
+    options: &Options,
+) -> bool
+    requires quotes { dialect.now.has_quotes ≡ HAS_QUOTES }
+    requires usable { IsUsable (row + 1) (C.target target.old) }
+    requires bare { IsBareIn dialect.now (C.target target.old) }
+    requires room { size + 17 ≤ length ahead.now }
+    ensures fault { IsTrue result → (start : ℕ) → fault_in (answer_as dialect.now
+        (option_map kind_of (C.target target.old))
+        (record { start = start; text = take size ahead.now })) ≡ None }
+    ensures target { IsTrue result → (start : ℕ) → C.target target.new ≡ option_map (put_read row
+        (answer_as dialect.now (option_map kind_of (C.target target.old))
+        (record { start = start; text = take size ahead.now }))) (C.target target.old) }
+    ensures kept { result ≡ false → C.target target.new ≡ C.target target.old }
+{
+    let (held, count) = within_quotes(ahead, size, HAS_QUOTES);
+    if HAS_QUOTES {
+        if !shows_no_quote(held, count) {
+            return false;
+        }
+    }
+    target.read_parsed(row, held, count, options)
+}
+
+// Whether a code is that of a type.
+#[inline(always)]
+fn is_typed<const ALL_STANDARD: bool>(code: u8) -> bool
+    requires standard { IsTrue ALL_STANDARD → 8 ≤ code }
+    ensures { result ≡ nat_le 8 code }
+{
+    ALL_STANDARD || code >= U8
+}
+
 // Reads a cell at once, the first `size` bytes of a text, where the column isn't read, or the cell
 // is digits alone, behind a minus or within quotes, and returns whether it did. With `HAS_CALLS` it
-// also reads texts, amounts and numbers of other formats, each by a call.
+// also reads texts, amounts and numbers of other formats, each by a call. With `ALL_STANDARD` the
+// code is that of a type under the standard format, and nothing else is asked for.
 #[inline(always)]
-pub(crate) fn read_coded<C: TableColumn, const HAS_QUOTES: bool, const HAS_CALLS: bool>(
+pub(crate) fn read_coded<
+    C: TableColumn,
+    const HAS_QUOTES: bool,
+    const ALL_STANDARD: bool,
+    const HAS_CALLS: bool,
+>(
     target: &mut C,
     code: u8,
     row: usize,
@@ -159,6 +220,7 @@ pub(crate) fn read_coded<C: TableColumn, const HAS_QUOTES: bool, const HAS_CALLS
 ) -> bool
     requires quotes { dialect.now.has_quotes ≡ HAS_QUOTES }
     requires code { IsCodeIn dialect.now code (C.target target.old) }
+    requires standard { IsTrue ALL_STANDARD → (8 ≤ code) × (code < 32) }
     requires usable { IsUsable (row + 1) (C.target target.old) }
     requires room { size + 17 ≤ length ahead.now }
     requires fits { start + size < 2 ^ 64 }
@@ -170,7 +232,7 @@ pub(crate) fn read_coded<C: TableColumn, const HAS_QUOTES: bool, const HAS_CALLS
         (record { start = start; text = take size ahead.now }))) (C.target target.old) }
     ensures kept { result ≡ false → C.target target.new ≡ C.target target.old }
 {
-    if code < U8 {
+    if !is_typed::<ALL_STANDARD>(code) {
         if HAS_CALLS && code == TEXTS {
             return read_text_cell(target, row, start, ahead, size, dialect);
         }
@@ -178,7 +240,7 @@ pub(crate) fn read_coded<C: TableColumn, const HAS_QUOTES: bool, const HAS_CALLS
             return read_amount::<C, HAS_QUOTES>(target, row, ahead, size, dialect);
         }
         if HAS_CALLS && code == BARE {
-            return read_bare_cell(target, row, ahead, size, dialect, options);
+            return read_bare_cell::<C, HAS_QUOTES>(target, row, ahead, size, dialect, options);
         }
         if HAS_CALLS && code == PARSED {
             return read_parsed_cell(target, row, ahead, size, dialect, options);
@@ -192,6 +254,6 @@ pub(crate) fn read_coded<C: TableColumn, const HAS_QUOTES: bool, const HAS_CALLS
         row,
         held,
         count,
-        coded_number(code, held, count),
+        coded_number::<ALL_STANDARD>(code, held, count),
     )
 }

@@ -4,7 +4,7 @@ ghost use Rattle.std.specs.Prelude.{◌≡◌, ◌⊎◌, ◌&&◌, ◌+◌, ◌
 ghost use Rattle.std.specs.Str.{bytes_eq};
 ghost use Rattle.lexical_tables.specs.ByColumn.{IsUsable, fault_in, kind_of, put_read};
 ghost use Rattle.lexical_tables.specs.Cells.{answer_as, quote_fault, view_of_cell};
-ghost use Rattle.lexical_tables.specs.Codes.{IsBareIn, IsCodeIn};
+ghost use Rattle.lexical_tables.specs.Codes.{IsCodeIn};
 ghost use Rattle.lexical_tables.specs.Targets.{has_bits, has_numbers, keeps_text, put_text, text_fault};
 
 use crate::cell_text::CellText;
@@ -162,52 +162,4 @@ pub(crate) fn read_parsed_cell<C: TableColumn>(
         ahead,
     };
     read_parsed(target, row, cell, dialect, options)
-}
-
-// Reads a cell in its column of bare numbers, the first `size` bytes of a text, where it is one, and returns whether it did.
-#[inline(always)]
-fn read_bare<C: TableColumn>(
-    target: &mut C,
-    row: usize,
-    ahead: &[u8],
-    size: usize,
-    dialect: &Dialect<'_>,
-    options: &Options,
-) -> bool
-    requires usable { IsUsable (row + 1) (C.target target.old) }
-    requires bare { IsBareIn dialect.now (C.target target.old) }
-    requires within { size ≤ length ahead.now }
-    ensures fault { IsTrue result → fault_in (answer_as dialect.now
-        (option_map kind_of (C.target target.old))
-        (record { start = 0; text = take size ahead.now })) ≡ None }
-    ensures target { IsTrue result → C.target target.new ≡ option_map (put_read row
-        (answer_as dialect.now (option_map kind_of (C.target target.old))
-        (record { start = 0; text = take size ahead.now }))) (C.target target.old) }
-    ensures kept { result ≡ false → C.target target.new ≡ C.target target.old }
-{
-    target.read_parsed(row, ahead, size, options)
-}
-
-// Reads a cell as `read_bare` does. Its place is of no account: only a fault would have it.
-#[inline(always)]
-pub(crate) fn read_bare_cell<C: TableColumn>(
-    target: &mut C,
-    row: usize,
-    ahead: &[u8],
-    size: usize,
-    dialect: &Dialect<'_>,
-    options: &Options,
-) -> bool
-    requires usable { IsUsable (row + 1) (C.target target.old) }
-    requires bare { IsBareIn dialect.now (C.target target.old) }
-    requires room { size + 17 ≤ length ahead.now }
-    ensures fault { IsTrue result → (start : ℕ) → fault_in (answer_as dialect.now
-        (option_map kind_of (C.target target.old))
-        (record { start = start; text = take size ahead.now })) ≡ None }
-    ensures target { IsTrue result → (start : ℕ) → C.target target.new ≡ option_map (put_read row
-        (answer_as dialect.now (option_map kind_of (C.target target.old))
-        (record { start = start; text = take size ahead.now }))) (C.target target.old) }
-    ensures kept { result ≡ false → C.target target.new ≡ C.target target.old }
-{
-    read_bare(target, row, ahead, size, dialect, options)
 }

@@ -1,8 +1,8 @@
 //! The loops over the rows of a text whose cells marks find: one goes on from cell to cell, and from row to row.
 
-ghost use Rattle.std.specs.Prelude.{◌≡◌, ◌+◌, ◌-◌, ◌<◌, IfOk, None, length, map, ◌≤◌, ◌^◌, ℕ, List, Option, drop, false, true};
+ghost use Rattle.std.specs.Prelude.{◌≡◌, ◌+◌, ◌-◌, ◌<◌, IfOk, IsTrue, None, length, map, ◌≤◌, ◌^◌, ℕ, List, Option, drop, false, true};
 ghost use Rattle.lexical_tables.specs.ByColumn.{AreUsable, StopsAt, columns_answer, columns_put, kinds_of, column_count};
-ghost use Rattle.lexical_tables.specs.Codes.{AreCodes};
+ghost use Rattle.lexical_tables.specs.Codes.{AreCodes, AreStandard};
 ghost use Rattle.lexical_tables.specs.RowSoFar.{IsMarked, GoesOn, GoesToEnd, IsOnRow};
 ghost use Rattle.lexical_tables.specs.Ends.{AreEnds};
 ghost use Rattle.lexical_tables.specs.Rows.{behind_piece};
@@ -11,7 +11,7 @@ ghost use Rattle.lexical_tables.specs.Targets.{TargetView};
 use crate::answers::{Table, TableError};
 use crate::cells::column_count;
 use crate::coded_cells::read_coded_cell;
-use crate::codes::{CODED, UNKNOWN, put_codes};
+use crate::codes::{CODED, Loop, UNKNOWN, put_codes};
 use crate::dialect::Dialect;
 use crate::ends::next_ends;
 use crate::far_cells::read_next_cell;
@@ -84,9 +84,15 @@ fn stopped_at(
 
 // Reads cells by the codes of their columns, while marks find the cells and each is read at once, up to the end of the row
 // `last`, or to that of the text, if nothing is wrong there. The first `coded` columns have codes. Without `HAS_CALLS` no call
-// stands in the loop, so that all it needs stays in registers.
+// stands in the loop, so that all it needs stays in registers. With `ALL_STANDARD` their codes say the types alone.
 #[inline(always)]
-fn read_cells_at_once<'a, C: TableColumn, const HAS_QUOTES: bool, const HAS_CALLS: bool>(
+fn read_cells_at_once<
+    'a,
+    C: TableColumn,
+    const HAS_QUOTES: bool,
+    const ALL_STANDARD: bool,
+    const HAS_CALLS: bool,
+>(
     text: &[u8],
     from: OpenRow<'a>,
     last: usize,
@@ -107,6 +113,7 @@ fn read_cells_at_once<'a, C: TableColumn, const HAS_QUOTES: bool, const HAS_CALL
     requires few { from.column ≤ columns }
     requires marked { IsMarked dialect.now separator }
     requires codes { AreCodes dialect.now codes.now (map C.target targets.old) }
+    requires standard { IsTrue ALL_STANDARD → AreStandard coded codes.now }
     requires usable { AreUsable (last + 1) (map C.target targets.old) }
     requires last { from.index ≤ last }
     ensures goes_on { result.is_done ≡ false → (first : ℕ) (old : List (Option TargetView))
@@ -157,7 +164,7 @@ fn read_cells_at_once<'a, C: TableColumn, const HAS_QUOTES: bool, const HAS_CALL
             return stopped_at(index, start, column, left, false);
         }
         let place = text.len() - left.text.len();
-        if !read_coded_cell::<C, HAS_QUOTES, HAS_CALLS>(
+        if !read_coded_cell::<C, HAS_QUOTES, ALL_STANDARD, HAS_CALLS>(
             targets, codes, column, index, place, left.text, part.size, dialect, options,
         ) {
             return stopped_at(index, start, column, left, false);
@@ -208,6 +215,7 @@ pub(crate) fn read_marked_rows<
     'a,
     C: TableColumn,
     const HAS_QUOTES: bool,
+    const ALL_STANDARD: bool,
     const HAS_CALLS: bool,
     const SKIPS: bool,
 >(
@@ -232,6 +240,7 @@ pub(crate) fn read_marked_rows<
     requires columns { columns ≡ column_count dialect.now.layout }
     requires marked { IsMarked dialect.now separator }
     requires codes { AreCodes dialect.now codes.now (map C.target targets.old) }
+    requires standard { IsTrue ALL_STANDARD → AreStandard (length targets.old) codes.now }
     requires usable { AreUsable (last + 1) (map C.target targets.old) }
     requires last { first ≤ last }
     ensures done { GoesToEnd dialect.now (length text.now) first (map C.target targets.old)
@@ -249,7 +258,7 @@ pub(crate) fn read_marked_rows<
     let coded = columns.min(CODED).min(targets.len());
     let mut row = open_row(text, first, from);
     loop {
-        let read = read_cells_at_once::<C, HAS_QUOTES, HAS_CALLS>(
+        let read = read_cells_at_once::<C, HAS_QUOTES, ALL_STANDARD, HAS_CALLS>(
             text, row, last, coded, columns, separator, codes, dialect, options, targets,
         );
         row = read.row;
@@ -291,7 +300,12 @@ pub(crate) fn read_marked_rows<
 
 // `read_columns` of a text with marks, by the columns' codes.
 #[inline(always)]
-fn read_coded_rows<C: TableColumn, const HAS_QUOTES: bool, const HAS_CALLS: bool>(
+fn read_coded_rows<
+    C: TableColumn,
+    const HAS_QUOTES: bool,
+    const ALL_STANDARD: bool,
+    const HAS_CALLS: bool,
+>(
     text: &[u8],
     separator: u8,
     codes: &[u8; CODED],
@@ -303,6 +317,7 @@ fn read_coded_rows<C: TableColumn, const HAS_QUOTES: bool, const HAS_CALLS: bool
     requires quotes { dialect.now.has_quotes ≡ HAS_QUOTES }
     requires marked { IsMarked dialect.now separator }
     requires codes { AreCodes dialect.now codes.now (map C.target targets.old) }
+    requires standard { IsTrue ALL_STANDARD → AreStandard (length targets.old) codes.now }
     requires usable { AreUsable rows (map C.target targets.old) }
     ensures answer { result ≡ columns_answer (kinds_of (map C.target targets.old)) dialect.now rows
         text.now }
@@ -316,7 +331,7 @@ fn read_coded_rows<C: TableColumn, const HAS_QUOTES: bool, const HAS_CALLS: bool
     while count < rows && !left.text.is_empty() {
         let last = last_at_once(count, rows, dialect);
         let mut wrong = None;
-        let read = read_marked_rows::<C, HAS_QUOTES, HAS_CALLS, false>(
+        let read = read_marked_rows::<C, HAS_QUOTES, ALL_STANDARD, HAS_CALLS, false>(
             text, left, count, last, columns, separator, codes, dialect, options, targets,
             &mut wrong,
         );
@@ -333,7 +348,7 @@ fn read_coded_rows<C: TableColumn, const HAS_QUOTES: bool, const HAS_CALLS: bool
 }
 
 // `read_coded_rows` of a table with texts, amounts or numbers of other formats, which calls read in
-// its loop. Out of line, so that other tables have a loop of their own, without a call.
+// its loop. Out of line, so that other tables have loops of their own, without a call.
 #[inline(never)]
 fn read_called_rows<C: TableColumn, const HAS_QUOTES: bool>(
     text: &[u8],
@@ -354,7 +369,9 @@ fn read_called_rows<C: TableColumn, const HAS_QUOTES: bool>(
         (map C.target targets.old) }
     ensures goes_on { IfOk result (StopsAt dialect.now rows text.now) }
 {
-    read_coded_rows::<C, HAS_QUOTES, true>(text, separator, codes, dialect, options, rows, targets)
+    read_coded_rows::<C, HAS_QUOTES, false, true>(
+        text, separator, codes, dialect, options, rows, targets,
+    )
 }
 
 // `read_columns` of a text with marks, once for tables with quotes and once for others: out of line, so that each has one loop.
@@ -377,12 +394,15 @@ pub(crate) fn read_rows<C: TableColumn, const HAS_QUOTES: bool>(
     ensures goes_on { IfOk result (StopsAt dialect.now rows text.now) }
 {
     let mut codes = [UNKNOWN; CODED];
-    if put_codes(dialect, targets, &mut codes) {
-        return read_called_rows::<C, HAS_QUOTES>(
+    match put_codes(dialect, targets, &mut codes) {
+        Loop::Standard => read_coded_rows::<C, HAS_QUOTES, true, false>(
             text, separator, &codes, dialect, options, rows, targets,
-        );
+        ),
+        Loop::WithoutCalls => read_coded_rows::<C, HAS_QUOTES, false, false>(
+            text, separator, &codes, dialect, options, rows, targets,
+        ),
+        Loop::WithCalls => read_called_rows::<C, HAS_QUOTES>(
+            text, separator, &codes, dialect, options, rows, targets,
+        ),
     }
-    read_coded_rows::<C, HAS_QUOTES, false>(
-        text, separator, &codes, dialect, options, rows, targets,
-    )
 }

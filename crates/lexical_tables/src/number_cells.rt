@@ -45,7 +45,7 @@ fn put_digits<C: TableColumn>(target: &mut C, code: u8, row: usize, held: Cell<'
         return false;
     }
     let size = held.text.len();
-    let found = coded_number(code, held.ahead, size);
+    let found = coded_number::<false>(code, held.ahead, size);
     put_found(target, code, row, held.ahead, size, found)
 }
 

@@ -10,7 +10,7 @@ ghost use Rattle.lexical_tables.specs.Rows.{FirstCounts, behind_piece, carriage_
 
 use crate::answers::{Table, TableError};
 use crate::by_column::read_rest;
-use crate::codes::{CODED, put_codes};
+use crate::codes::{CODED, Loop, put_codes};
 use crate::dialect::{Dialect, Layout};
 use crate::ends::LEAST_MARKED;
 use crate::marked_rows::{LastRow, read_marked_rows};
@@ -79,7 +79,7 @@ pub(crate) fn read_first_rows<'a, C: TableColumn, const HAS_QUOTES: bool, const 
     ensures within { result.start < length text.now }
 {
     if let Some(separator) = marked {
-        return read_marked_rows::<C, HAS_QUOTES, HAS_CALLS, true>(
+        return read_marked_rows::<C, HAS_QUOTES, false, HAS_CALLS, true>(
             text, from, first, last, columns, separator, codes, dialect, options, targets, wrong,
         );
     }
@@ -131,20 +131,20 @@ pub(crate) fn behind_empty_rows<'a>(
     Left { text, marks: 0 }
 }
 
-// Asks the columns for their codes, where marks find the cells, and returns whether the cells of one
-// are read by a call. Elsewhere it asks for no code, and returns `false`.
+// Asks the columns for their codes, where marks find the cells, and returns which loop reads these. Elsewhere it asks for no
+// code.
 #[inline(always)]
 pub(crate) fn ask_codes<C: TableColumn>(
     marked: Option<u8>,
     dialect: &Dialect<'_>,
     targets: &[C],
     codes: &mut [u8; CODED],
-) -> bool
+) -> Loop
     requires unknown { (k : ℕ) → k < length codes.old → slice_index codes.old k ≡ 0 }
     ensures { AreCodes dialect.now codes.new (map C.target targets.now) }
 {
     if marked.is_none() {
-        return false;
+        return Loop::WithoutCalls;
     }
     put_codes(dialect, targets, codes)
 }

@@ -13,7 +13,7 @@ ghost use Rattle.lexical_tables.specs.Skipping.{HoldRightRows, SkippingInParts, 
 use crate::answers::TableError;
 use crate::bad_rows::{BadRow, KeptRow, Skipped, put_bad_row};
 use crate::cells::column_count;
-use crate::codes::{CODED, UNKNOWN};
+use crate::codes::{CODED, Loop, UNKNOWN};
 use crate::dialect::Dialect;
 use crate::marked_rows::last_at_once;
 use crate::next_part::Left;
@@ -191,14 +191,14 @@ fn skip_rows<C: TableColumn, B: KeptRow, const HAS_QUOTES: bool>(
 {
     let marked = marked_separator(text, dialect);
     let mut codes = [UNKNOWN; CODED];
-    if ask_codes(marked, dialect, targets, &mut codes) {
-        return skip_called_rows::<C, B, HAS_QUOTES>(
+    match ask_codes(marked, dialect, targets, &mut codes) {
+        Loop::WithCalls => skip_called_rows::<C, B, HAS_QUOTES>(
             text, marked, &codes, dialect, options, rows, targets, bad,
-        );
+        ),
+        _ => skip_coded_rows::<C, B, HAS_QUOTES, false>(
+            text, marked, &codes, dialect, options, rows, targets, bad,
+        ),
     }
-    skip_coded_rows::<C, B, HAS_QUOTES, false>(
-        text, marked, &codes, dialect, options, rows, targets, bad,
-    )
 }
 
 /// Reads a table's columns into slices of their own, as [`read_columns`](crate::read_columns) does, and skips the rows

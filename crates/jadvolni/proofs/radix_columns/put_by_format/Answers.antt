@@ -1,22 +1,17 @@
-use Rattle.std.proofs.Common.{◌≡◌, ◌∙◌, Ok, Err, None, Option, Some, ap, map, refl}
-use Rattle.std.specs.Prelude.{IsNone}
+use Rattle.std.proofs.Common.{◌∙◌, Ok, Err, Some, ap, map}
 use Rattle.std.proofs.lemmas.List.{map-set}
-use Rattle.lexical_util.specs.declared.error.Error.{Error}
 use Rattle.lexical_util.specs.Validity.{fault}
 use Rattle.lexical_fields.specs.ReadFields.{field_answer}
 use Rattle.lexical_fields.proofs.FieldAnswers.{answered}
+use Rattle.lexical_fixed.proofs.Valid.{is_none}
 use Rattle.lexical_tables.specs.Targets.{error_in, with_number}
 use Rattle.jadvolni.proofs.radix_columns.put_by_format.Goals as goal
-
-none_is : (found : Option Error) → found ≡ None → IsNone found
-none_is None is = refl
-none_is (Some error) is = absurd cc
 
 pub returns-in-Ok : goal.returns-in-Ok
 returns-in-Ok g c =
     let number = g.T.Integer.number in
     let told = answered c.valid_format.result g.T.Integer.TYPE c.args.start c.args.text.now (Ok (number c.in-Ok.value))
-    (none_is _ (ap fault c.valid_format.ensures ∙ c.requires.valid)) c.in-Ok.ensures
+    (is_none _ (ap fault c.valid_format.ensures ∙ c.requires.valid)) c.in-Ok.ensures
     ∙ ap (λ it. field_answer it g.T.Integer.TYPE (record { start = c.args.start; text = c.args.text.now })) c.valid_format.ensures in
     record {
       fault = ap error_in told;
@@ -29,7 +24,7 @@ pub returns-in-Err : goal.returns-in-Err
 returns-in-Err g c =
     let number = g.T.Integer.number in
     let told = answered c.valid_format.result g.T.Integer.TYPE c.args.start c.args.text.now (Err c.in-Err.error)
-    (none_is _ (ap fault c.valid_format.ensures ∙ c.requires.valid)) c.in-Err.ensures
+    (is_none _ (ap fault c.valid_format.ensures ∙ c.requires.valid)) c.in-Err.ensures
     ∙ ap (λ it. field_answer it g.T.Integer.TYPE (record { start = c.args.start; text = c.args.text.now })) c.valid_format.ensures in
     record {
       fault = ap Some c.error_in_text.ensures ∙ ap error_in told;

@@ -16,6 +16,10 @@ read_coded-requires-clause-usable g c =
     usable_at g.C.TableColumn.target c.args.dialect.now c.args.targets.now c.args.column (record { start = 0; text = [] }) low _
     (c.args.row + 1) c.requires.usable
 
+pub read_coded-requires-clause-standard : goal.read_coded-requires-clause-standard
+read_coded-requires-clause-standard g c = λ all.
+    c.requires.standard all c.args.column (grind (arith, nat_tests)) (omega arith)
+
 pub returns-clause-fault : goal.returns-clause-fault
 returns-clause-fault g c = λ did.
     let start = c.args.start in

@@ -1,7 +1,7 @@
 use Rattle.std.proofs.Common.{◌∙◌, ◌<◌, length, length-set, subst, arith}
 use Rattle.std.proofs.lemmas.Bool.Decides.{nat_tests}
 use Rattle.lexical_tables.specs.Codes.{IsCodeIn}
-use Rattle.lexical_tables.proofs.CodeLists.{below_next}
+use Rattle.lexical_tables.proofs.CodeLists.{below_next, standard_next}
 use Rattle.lexical_tables.proofs.codes.put_codes.Goals as goal
 
 pub loop-column-preserved : goal.loop-column-preserved
@@ -14,4 +14,7 @@ loop-column-preserved g c =
           c.args.targets.now c.code_in-code.result _ c.loop-column.invariant.coded
           (omega (arith, c.loop-column.invariant.size, few)) low
           (subst (λ x. IsCodeIn c.args.dialect.now c.code_in-code.result (g.C.TableColumn.target x)) c.index-targets-column.is c.code_in-code.ensures);
+      standard = λ all. standard_next c.loop-column.column c.loop-column.codes c.code_in-code.result
+          (c.loop-column.invariant.standard (c.with_code-columns.ensures.columns all))
+          (omega (arith, c.loop-column.invariant.size, few)) (c.with_code-columns.ensures.code all);
     }

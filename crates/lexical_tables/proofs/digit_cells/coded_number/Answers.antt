@@ -5,7 +5,7 @@ use Rattle.lexical_tables.proofs.numerals.ZeroRule.{if_both}
 use Rattle.lexical_tables.proofs.digit_cells.coded_number.Goals as goal
 
 pub returns-clause-numeral : goal.returns-clause-numeral
-returns-clause-numeral c =
+returns-clause-numeral g c =
     if_both c.number_of_front.result c.number_of_front.ensures.writes c.number_of_front.ensures.sign
     (λ found writes sign format decimal.
     let text = take c.args.size c.args.ahead.now in

@@ -1,7 +1,7 @@
 use Rattle.std.proofs.Common.{◌-◌, length, subst, sym, take}
 use Rattle.lexical_tables.specs.Codes.{AreQuotesRound}
 use Rattle.lexical_tables.proofs.CodeSteps.{amounts_if_fixed}
-use Rattle.lexical_tables.proofs.numerals.AmountCells.{amount_put}
+use Rattle.lexical_tables.proofs.numerals.HeldCells.{amount_put}
 use Rattle.lexical_tables.proofs.digit_cells.read_amount.Goals as goal
 
 pub read_amount-requires-clause-amounts : goal.read_amount-requires-clause-amounts

@@ -18,6 +18,11 @@ read_coded_cell-requires-clause-usable g c =
     use_less (c.loop-column.index + 1) (c.args.last + 1) (map g.C.TableColumn.target c.loop-column.targets)
     (omega (arith, c.loop-column.invariant.7)) c.loop-column.invariant.3
 
+pub read_coded_cell-requires-clause-standard : goal.read_coded_cell-requires-clause-standard
+read_coded_cell-requires-clause-standard g c = λ all k within few.
+    let low : c.loop-column.column < c.args.coded = grind (arith, nat_tests) in
+    c.requires.standard all k within (omega (arith, few, low))
+
 pub returns-then-index-last-clause-done : goal.returns-then-index-last-clause-done
 returns-then-index-last-clause-done g c = λ is_done first old from on.
     let d = c.args.dialect.now in

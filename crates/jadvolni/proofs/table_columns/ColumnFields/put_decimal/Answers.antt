@@ -1,25 +1,20 @@
-use Rattle.std.proofs.Common.{◌≡◌, ◌∙◌, ◌+◌, None, Option, Some, ap, refl, sym}
-use Rattle.std.specs.Prelude.{IsNone}
-use Rattle.lexical_util.specs.declared.error.Error.{Error}
+use Rattle.std.proofs.Common.{◌≡◌, ◌∙◌, ◌+◌, ap, sym}
 use Rattle.lexical_util.specs.Validity.{fault}
 use Rattle.lexical_parse_integer.specs.Answer.{view_of}
 use Rattle.lexical_util.specs.Number.{IntegerType}
 use Rattle.lexical_fields.specs.Fields.{FieldView}
 use Rattle.lexical_fields.specs.ReadFields.{field_answer}
+use Rattle.lexical_fixed.proofs.Valid.{is_none}
 use Rattle.lexical_tables.specs.Readings.{Number, answer_by}
 use Rattle.jadvolni.specs.Tables.{reading_of}
 use Rattle.jadvolni.proofs.ColumnNumbers.{fault_there, integer_answer, put_there, room_for, valid_integers}
 use Rattle.jadvolni.proofs.table_columns.ColumnFields.put_decimal.Goals as goal
 
-none_is : (found : Option Error) → found ≡ None → IsNone found
-none_is None is = refl
-none_is (Some error) is = absurd cc
-
 pub put_cell-requires : goal.put_cell-requires
 put_cell-requires c =
     let column = c.args.self.now in
     record {
-      valid = none_is (fault c.decimal_format-format.result) (ap fault c.decimal_format-format.ensures
+      valid = is_none (fault c.decimal_format-format.result) (ap fault c.decimal_format-format.ensures
           ∙ valid_integers column (c.args.row + 1) _ (sym c.number_type.ensures ∙ c.in-Some.is) c.requires.integers c.requires.usable);
       room = room_for column c.args.row c.requires.usable;
       front = c.requires.front;

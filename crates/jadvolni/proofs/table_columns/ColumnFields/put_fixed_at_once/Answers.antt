@@ -1,10 +1,9 @@
-use Rattle.std.proofs.Common.{◌≡◌, ◌∙◌, ◌+◌, None, Option, Some, ap, refl, sym, take, false}
-use Rattle.std.specs.Prelude.{IsNone}
+use Rattle.std.proofs.Common.{◌≡◌, ◌∙◌, ◌+◌, ap, sym, take, false}
 use Rattle.lexical_util.specs.Number.{IntegerType}
 use Rattle.lexical_fields.specs.Fields.{FieldView}
 use Rattle.lexical_fixed.specs.Validity.{fixed_fault}
-use Rattle.lexical_fixed.specs.declared.error.FixedFormatError.{FixedFormatError}
 use Rattle.lexical_parse_integer.specs.Answer.{view_of}
+use Rattle.lexical_fixed.proofs.Valid.{is_none}
 use Rattle.lexical_tables.specs.Readings.{Number, answer_by, fixed_answer}
 use Rattle.lexical_tables.specs.Targets.{keeps_text}
 use Rattle.jadvolni.specs.Fixed.{fixed_of}
@@ -12,16 +11,12 @@ use Rattle.jadvolni.specs.Tables.{reading_of, target_of}
 use Rattle.jadvolni.proofs.ColumnNumbers.{fault_there, fixed_point_answer, kept_there, no_texts_there, put_there, room_for, valid_fixed}
 use Rattle.jadvolni.proofs.table_columns.ColumnFields.put_fixed_at_once.Goals as goal
 
-none_is : (fault : Option FixedFormatError) → fault ≡ None → IsNone fault
-none_is None is = refl
-none_is (Some fault) is = absurd cc
-
 pub put_fixed_at_once-requires : goal.put_fixed_at_once-requires
 put_fixed_at_once-requires c =
     let column = c.args.self.now in
     record {
       numbers = sym c.number_type.ensures ∙ c.in-Some.is;
-      valid = none_is (fixed_fault c.decimal-format.result) (ap fixed_fault c.decimal-format.ensures
+      valid = is_none (fixed_fault c.decimal-format.result) (ap fixed_fault c.decimal-format.ensures
           ∙ valid_fixed column (c.args.row + 1) _ (sym c.number_type.ensures ∙ c.in-Some.is) c.requires.places c.requires.usable);
       room = room_for column c.args.row c.requires.usable;
       within = c.requires.within;

@@ -1,24 +1,19 @@
-use Rattle.std.proofs.Common.{◌≡◌, ◌∙◌, ◌+◌, None, Option, Some, ap, refl, sym}
-use Rattle.std.specs.Prelude.{IsNone}
+use Rattle.std.proofs.Common.{◌≡◌, ◌∙◌, ◌+◌, ap, sym}
 use Rattle.lexical_util.specs.Number.{IntegerType}
 use Rattle.lexical_fields.specs.Fields.{FieldView}
 use Rattle.lexical_fixed.specs.Validity.{fixed_fault}
-use Rattle.lexical_fixed.specs.declared.error.FixedFormatError.{FixedFormatError}
 use Rattle.lexical_parse_integer.specs.Answer.{view_of}
+use Rattle.lexical_fixed.proofs.Valid.{is_none}
 use Rattle.lexical_tables.specs.Readings.{Number, answer_by, fixed_answer}
 use Rattle.jadvolni.specs.Tables.{reading_of}
 use Rattle.jadvolni.proofs.ColumnNumbers.{fault_there, fixed_point_answer, put_there, room_for, valid_fixed}
 use Rattle.jadvolni.proofs.table_columns.ColumnFields.put_fixed_parsed.Goals as goal
 
-none_is : (fault : Option FixedFormatError) → fault ≡ None → IsNone fault
-none_is None is = refl
-none_is (Some fault) is = absurd cc
-
 pub put_fixed-requires : goal.put_fixed-requires
 put_fixed-requires c =
     let column = c.args.self.now in
     record {
-      valid = none_is (fixed_fault c.fixed_format-format.result) (ap fixed_fault c.fixed_format-format.ensures
+      valid = is_none (fixed_fault c.fixed_format-format.result) (ap fixed_fault c.fixed_format-format.ensures
           ∙ valid_fixed column (c.args.row + 1) _ (sym c.number_type.ensures ∙ c.in-Some.is) c.requires.places c.requires.usable);
       room = room_for column c.args.row c.requires.usable;
       fits = c.requires.fits;

@@ -1,5 +1,5 @@
-use Rattle.std.proofs.Common.{◌≡◌, ◌∙◌, ◌+◌, None, Ok, Option, Some, ap, false, refl, sym}
-use Rattle.std.specs.Prelude.{IsNone, IsTrue}
+use Rattle.std.proofs.Common.{◌≡◌, ◌∙◌, ◌+◌, Ok, ap, false, refl, sym}
+use Rattle.std.specs.Prelude.{IsTrue}
 use Rattle.lexical_util.specs.Number.{IntegerType}
 use Rattle.lexical_digits.specs.Value.{with_sign}
 use Rattle.lexical_fields.specs.Fields.{FieldView}
@@ -8,7 +8,7 @@ use Rattle.lexical_parse_integer.specs.Answer.{view_of}
 use Rattle.lexical_fixed.specs.Fixed.{Fixed}
 use Rattle.lexical_fixed.specs.Grammar.{complete_fixed}
 use Rattle.lexical_fixed.specs.Validity.{fixed_fault}
-use Rattle.lexical_fixed.specs.declared.error.FixedFormatError.{FixedFormatError}
+use Rattle.lexical_fixed.proofs.Valid.{is_none}
 use Rattle.lexical_tables.specs.Readings.{Number, answer_by, fixed_answer}
 use Rattle.lexical_tables.specs.Targets.{keeps_text}
 use Rattle.jadvolni.specs.Arrays.{type_named}
@@ -16,10 +16,6 @@ use Rattle.jadvolni.specs.Fixed.{fixed_of}
 use Rattle.jadvolni.specs.Tables.{reading_of, target_of}
 use Rattle.jadvolni.proofs.ColumnNumbers.{fault_there, fixed_point_answer, kept_there, no_texts_there, put_answered, put_there, room_for, valid_fixed}
 use Rattle.jadvolni.proofs.table_columns.ColumnFields.put_in_groups.Goals as goal
-
-none_is : (fault : Option FixedFormatError) → fault ≡ None → IsNone fault
-none_is None is = refl
-none_is (Some fault) is = absurd cc
 
 pub separated-requires : goal.separated-requires
 separated-requires c = record {
@@ -29,7 +25,7 @@ separated-requires c = record {
 
 pub units_in_groups-requires : goal.units_in_groups-requires
 units_in_groups-requires c = record {
-  valid = none_is (fixed_fault c.separated.result)
+  valid = is_none (fixed_fault c.separated.result)
       (ap fixed_fault c.separated.ensures ∙ valid_fixed c.args.self.now (c.args.row + 1) _ (sym c.number_type.ensures ∙ c.in-Some.is) c.requires.places c.requires.usable);
 }
 

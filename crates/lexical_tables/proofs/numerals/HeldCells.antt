@@ -1,20 +1,21 @@
--- A cell of a column of amounts: what it holds is read, alone or within quotes.
-use Rattle.std.proofs.Common.{◌≡◌, ◌≢◌, ◌∙◌, ℕ, ◌+◌, ◌-◌, ◌*◌, ◌<◌, ◌≤◌, ◌&&◌, true, false, cond, not, List, length, length-drop, length-take-le, take, drop, get_or, Result, Option, Some, None, Ok, Err, refl, ap, ap₂, sym, subst, arith, inl, inr}
+-- A cell of a column of numbers: what it holds is read, alone or within quotes.
+use Rattle.std.proofs.Common.{◌≡◌, ◌≢◌, ◌∙◌, ℕ, ◌+◌, ◌-◌, ◌*◌, ◌<◌, ◌≤◌, ◌&&◌, Bool, true, false, cond, not, List, length, length-drop, length-take, length-take-le, take, drop, get_or, Result, Option, Some, None, Ok, Err, refl, ap, ap₂, sym, subst, arith, inl, inr}
 use Rattle.std.specs.Prelude.{is_some, option_map}
 use Rattle.std.specs.Str.{bytes_eq}
-use Rattle.std.proofs.lemmas.List.{drop-take, take-take}
+use Rattle.std.proofs.lemmas.List.{drop-take, get_or-take, take-take}
 use Rattle.lexical_util.specs.declared.error.Error.{Error}
 use Rattle.lexical_fields.specs.Fields.{FieldView}
 use Rattle.lexical_tables.specs.Amounts.{AreAmounts, IsAmountText, IsAmountsIn}
-use Rattle.lexical_tables.specs.ByColumn.{fault_in, kind_of, put_read}
-use Rattle.lexical_tables.specs.Cells.{Kind, answer_as, content, ends_in_digit, quote_fault, some_value, unless, value_at, within_quotes}
-use Rattle.lexical_tables.specs.Codes.{AreQuotesRound}
+use Rattle.lexical_tables.specs.ByColumn.{IsUsable, fault_in, kind_of, put_read}
+use Rattle.lexical_tables.specs.Cells.{Kind, answer_as, content, quote_fault, some_value, unless, value_at, within_quotes}
+use Rattle.lexical_tables.specs.Codes.{AreQuotesRound, IsBareIn}
 use Rattle.lexical_tables.specs.Quotes.{quote}
 use Rattle.lexical_tables.specs.Readings.{FixedPoints, Integers, Reading, Text, Texts, Value, answer_by, keeps_texts, text_of}
 use Rattle.lexical_tables.specs.Targets.{TargetView, error_in, has_bits, put_answer, put_text, text_fault}
 use Rattle.lexical_tables.specs.declared.answers.CellFault.TheVariants.{MisplacedQuote}
 use Rattle.lexical_tables.specs.declared.dialect.Dialect.{Dialect}
 use Rattle.lexical_tables.proofs.CodedCells.{IsCellPut}
+use Rattle.lexical_tables.proofs.ParsedCells.{not_true, number_anywhere}
 use Rattle.lexical_tables.proofs.numerals.PlainCells.{begins, held_whole, none_misplaced, not_mark}
 use Rattle.lexical_tables.proofs.Unquoted.{begins_unquoted, unquoted_fault}
 
@@ -45,14 +46,24 @@ module _ (d : Dialect) (kind : Kind) (cell : FieldView) (numbers : keeps_texts k
       ap (λ t. unless (quote_fault d.has_quotes (not t) cell)
       (value_at d kind (content d.has_quotes (not t && d.allows_blanks) cell))) numbers
 
-  plain_cell : IsUnquoted cell.text → (kind.may_miss && bytes_eq cell.text d.missing.now) ≡ false
+  plain_cell : (d.has_quotes ≡ true → IsUnquoted cell.text)
+      → (kind.may_miss && bytes_eq cell.text d.missing.now) ≡ false
       → answer_as d (Some kind) cell ≡ some_value (answer_by kind.reading cell)
   plain_cell none no_mark =
       as_number
-      ∙ ap (λ found. unless found (value_at d kind (content d.has_quotes d.allows_blanks cell)))
-      (sym (unquoted_fault d.has_quotes true cell none))
-      ∙ ap (value_at d kind) (held_whole d.has_quotes d.allows_blanks cell no_blanks (begins_unquoted cell.text none))
+      ∙ ap₂ (λ found held. unless found (value_at d kind held)) (by_quotes d.has_quotes refl).0 (by_quotes d.has_quotes refl).1
       ∙ value_here cell no_mark
+    where
+      by_quotes : (has_quotes : Bool) → d.has_quotes ≡ has_quotes
+          → (quote_fault d.has_quotes true cell ≡ None) × (content d.has_quotes d.allows_blanks cell ≡ cell)
+      by_quotes true is = (
+        sym (unquoted_fault d.has_quotes true cell (none is)),
+        held_whole d.has_quotes d.allows_blanks cell no_blanks (begins_unquoted cell.text (none is)),
+      )
+      by_quotes false is = (
+        ap (λ q. quote_fault q true cell) is,
+        ap₂ (λ q b. content q b cell) is no_blanks,
+      )
 
   quoted_cell : d.has_quotes ≡ true → (two : 2 ≤ length cell.text) → (first : get_or cell.text 0 0 ≡ quote)
       → (last : get_or cell.text (length cell.text - 1) 0 ≡ quote)
@@ -74,10 +85,12 @@ read_value row target (Ok value) right = (refl, refl)
 read_value row target (Err error) right = absurd cc
 
 module _ (d : Dialect) (row start size : ℕ) (ahead held : List ℕ) (count : ℕ) (old new : Option TargetView)
-    (amounts : IsAmountsIn d old) (room : size + 17 ≤ length ahead)
+    (no_blanks : d.allows_blanks ≡ false) (room : size + 17 ≤ length ahead)
     (round : AreQuotesRound d.has_quotes (take size ahead) (length ahead - length held))
     (tail : held ≡ drop (length ahead - length held) ahead) (whole : count + 2 * (length ahead - length held) ≡ size)
-    (bytes : IsAmountText (take count held))
+    (unquoted : d.has_quotes ≡ true → IsUnquoted (take count held))
+    (no_mark_here : (target : TargetView) → old ≡ Some target
+    → (is_some target.present && bytes_eq (take count held) d.missing.now) ≡ false)
     (right : (s : ℕ) → text_fault old (record { start = s; text = take count held }) ≡ None)
     (put : (s : ℕ) → new ≡ option_map (put_text row (record { start = s; text = take count held })) old) where
   abbrev cell : FieldView
@@ -113,8 +126,7 @@ module _ (d : Dialect) (row start size : ℕ) (ahead held : List ℕ) (count : �
   no_mark : (target : TargetView) → old ≡ Some target → (inner : FieldView) → Holds inner
       → (is_some target.present && bytes_eq inner.text d.missing.now) ≡ false
   no_mark target is inner holds =
-      not_mark (is_some target.present) inner.text d.missing.now (ap ends_in_digit holds ∙ bytes.ends)
-      (λ misses. amounts.no_number (ap has_bits is ∙ misses))
+      ap (λ t. is_some target.present && bytes_eq t d.missing.now) holds ∙ no_mark_here target is
 
   inner_is : length ahead - length held ≡ 1 → 2 ≤ size → take (length cell.text - 2) (drop 1 cell.text) ≡ take count held
   inner_is one some =
@@ -136,7 +148,7 @@ module _ (d : Dialect) (row start size : ℕ) (ahead held : List ℕ) (count : �
           let holds : cell.text ≡ take count held =
           ap (λ n. take n ahead) (sym same) ∙ ap (take count) (sym (tail ∙ ap (λ q. drop q ahead) bare)) in
           by_held target is cell holds
-          (plain_cell d (kind_of target) cell numbers amounts.no_blanks (subst IsUnquoted (sym holds) bytes.unquoted)
+          (plain_cell d (kind_of target) cell numbers no_blanks (λ has. subst IsUnquoted (sym holds) (unquoted has))
           (no_mark target is cell holds))
       by_round (inr one) =
           let some : 2 ≤ size = omega (arith, one.2, long) in
@@ -145,10 +157,10 @@ module _ (d : Dialect) (row start size : ℕ) (ahead held : List ℕ) (count : �
           let holds : (within_quotes cell).text ≡ take count held =
           ap (λ k. take k (drop 1 cell.text)) last ∙ inside in
           by_held target is (within_quotes cell) holds
-          (quoted_cell d (kind_of target) cell numbers amounts.no_blanks one.1 one.2 one.3 one.4
-          (subst IsUnquoted (sym inside) bytes.unquoted) (no_mark target is (within_quotes cell) holds))
+          (quoted_cell d (kind_of target) cell numbers no_blanks one.1 one.2 one.3 one.4
+          (subst IsUnquoted (sym inside) (unquoted one.1)) (no_mark target is (within_quotes cell) holds))
 
--- what was put of what a cell holds is put of the cell
+-- what was put of the amount that a cell holds is put of the cell
 pub amount_put : (d : Dialect) (row start size : ℕ) (ahead held : List ℕ) (count : ℕ) (old new : Option TargetView)
     → IsAmountsIn d old → size + 17 ≤ length ahead
     → AreQuotesRound d.has_quotes (take size ahead) (length ahead - length held)
@@ -159,5 +171,33 @@ pub amount_put : (d : Dialect) (row start size : ℕ) (ahead held : List ℕ) (c
     → IsCellPut d row (record { start = start; text = take size ahead }) old new
 amount_put d row start size ahead held count None new amounts room round tail whole bytes right put = absurd amounts.column
 amount_put d row start size ahead held count (Some target) new amounts room round tail whole bytes right put =
-    by_target d row start size ahead held count (Some target) new amounts room round tail whole bytes right put target refl
-    (are_numbers target.reading amounts.column)
+    by_target d row start size ahead held count (Some target) new amounts.no_blanks room round tail whole
+    (λ has. bytes.unquoted)
+    (λ it is. not_mark (is_some it.present) (take count held) d.missing.now bytes.ends
+    (λ misses. amounts.no_number (ap has_bits is ∙ misses)))
+    right put target refl (are_numbers target.reading amounts.column)
+
+-- so is what was put of a bare number, which was read at the start of a text
+pub bare_put : (d : Dialect) (row start size : ℕ) (ahead held : List ℕ) (count : ℕ) (old new : Option TargetView)
+    → IsBareIn d old → IsUsable (row + 1) old → size + 17 ≤ length ahead
+    → AreQuotesRound d.has_quotes (take size ahead) (length ahead - length held)
+    → held ≡ drop (length ahead - length held) ahead → count + 2 * (length ahead - length held) ≡ size
+    → (d.has_quotes ≡ true → (k : ℕ) → k < count → get_or held k 0 ≢ quote)
+    → text_fault old (record { start = 0; text = take count held }) ≡ None
+    → new ≡ option_map (put_text row (record { start = 0; text = take count held })) old
+    → IsCellPut d row (record { start = start; text = take size ahead }) old new
+bare_put d row start size ahead held count None new bare usable room round tail whole none right put = absurd cc
+bare_put d row start size ahead held count (Some target) new bare usable room round tail whole none right put =
+    by_target d row start size ahead held count (Some target) new bare.no_blanks room round tail whole
+    (λ has k low is. none has k (omega (arith, low, length-take count held)) (sym (get_or-take count held k 0 (omega (arith, low, length-take count held))) ∙ is))
+    (λ it is. ap (λ misses. misses && bytes_eq (take count held) d.missing.now) (sym (ap has_bits is) ∙ bare.no_bits))
+    (λ s. ap error_in (anywhere s) ∙ right)
+    (λ s. put ∙ ap (λ a. Some (put_answer row a target)) (sym (anywhere s)))
+    target refl numbers
+  where
+    numbers : keeps_texts target.reading ≡ false
+    numbers = not_true (keeps_texts target.reading) bare.numbers
+
+    anywhere : (s : ℕ) → answer_by target.reading (record { start = s; text = take count held })
+        ≡ answer_by target.reading (record { start = 0; text = take count held })
+    anywhere s = number_anywhere s target.reading (take count held) usable.0 numbers right
