@@ -16,7 +16,7 @@ use crate::threes::numbers_to_12;
 use lexical_digits::values::{join_parts, value_of_parts};
 use lexical_parse_integer::NumberFormat;
 use lexical_parse_integer::parse::ParseInteger;
-use lexical_parse_integer::quick::is_separated;
+use lexical_parse_integer::quick::{is_separated, keeps_zero_rule};
 
 // What stands behind a minus that is a sign, and whether there is one.
 #[inline(always)]
@@ -27,18 +27,6 @@ fn behind_minus<T: ParseInteger>(text: &[u8]) -> (bool, &[u8])
 {
     let is_negative = T::IS_SIGNED & (text[0] == b'-');
     (is_negative, &text[usize::from(is_negative)..])
-}
-
-// Whether no zero stands in front of another digit, where the format forbids that.
-#[inline(always)]
-fn keeps_zero_rule(format: &NumberFormat, digits: &[u8]) -> bool
-    ensures { result ≡ keeps_zero_rule format.now digits.now }
-{
-    if format.no_integer_leading_zeros() && digits.len() > 1 {
-        digits[0] != b'0'
-    } else {
-        true
-    }
 }
 
 // The value of up to twelve digits with room behind them.
