@@ -71,7 +71,7 @@ asked_code dialect code target is read = record {
     read = λ more. absurd (omega (arith, more));
   };
   no_number = λ more. absurd (omega (arith, more));
-  amounts = λ four. absurd (omega (arith, four));
+  amounts = λ seven. absurd (omega (arith, seven));
   bare = λ six. absurd (omega (arith, six));
 }
 
@@ -81,7 +81,7 @@ pub low_code : (dialect : Dialect) (code : ℕ) (target : Option TargetView) →
 low_code dialect code target is low = record {
   column = is;
   no_number = λ more. absurd (omega (arith, low, more));
-  amounts = λ four. absurd (omega (arith, low, four));
+  amounts = λ seven. absurd (omega (arith, low, seven));
   bare = λ six. absurd (omega (arith, low, six));
 }
 
@@ -91,7 +91,7 @@ pub parsed_code : (dialect : Dialect) (code : ℕ) (target : Option TargetView) 
 parsed_code dialect code target is five = record {
   column = is;
   no_number = λ more. absurd (omega (arith, five, more));
-  amounts = λ four. absurd (omega (arith, five, four));
+  amounts = λ seven. absurd (omega (arith, five, seven));
   bare = λ six. absurd (omega (arith, five, six));
 }
 
@@ -106,7 +106,7 @@ bare_code dialect target is blanks bits = record {
     read = λ more. absurd (omega (arith, more));
   };
   no_number = λ more. absurd (omega (arith, more));
-  amounts = λ four. absurd (omega (arith, four));
+  amounts = λ seven. absurd (omega (arith, seven));
   bare = λ six. record { numbers = is.parsed refl; no_blanks = blanks; no_bits = bits };
 }
 
@@ -132,7 +132,7 @@ none_code dialect target = record {
     read = λ more. absurd (omega (arith, more));
   };
   no_number = λ more. absurd (omega (arith, more));
-  amounts = λ four. absurd (omega (arith, four));
+  amounts = λ seven. absurd (omega (arith, seven));
   bare = λ six. absurd (omega (arith, six));
 }
 
@@ -143,13 +143,13 @@ pub type_code : (dialect : Dialect) (code : ℕ) (target : Option TargetView) �
 type_code dialect code target is type mark = record {
   column = is;
   no_number = λ more. mark;
-  amounts = λ four. absurd (omega (arith, type, four));
+  amounts = λ seven. absurd (omega (arith, type, seven));
   bare = λ six. absurd (omega (arith, type, six));
 }
 
 -- the code of amounts
 pub amounts_code : (dialect : Dialect) (target : Option TargetView) → HasAmounts target → dialect.allows_blanks ≡ false
-    → (has_bits target ≡ true → ends_in_digit dialect.missing.now ≡ false) → IsCodeIn dialect 4 target
+    → (has_bits target ≡ true → ends_in_digit dialect.missing.now ≡ false) → IsCodeIn dialect 7 target
 amounts_code dialect target has blanks mark = record {
   column = record {
     unread = λ one. absurd (omega (arith, one));
@@ -159,7 +159,7 @@ amounts_code dialect target has blanks mark = record {
     read = λ more. absurd (omega (arith, more));
   };
   no_number = λ more. absurd (omega (arith, more));
-  amounts = λ four. record { column = has; no_blanks = blanks; no_number = mark };
+  amounts = λ seven. record { column = has; no_blanks = blanks; no_number = mark };
   bare = λ six. absurd (omega (arith, six));
 }
 
@@ -184,9 +184,9 @@ amounts_if_fixed (Some target) has = reading_if_fixed target.reading has
 
 -- a column of either code has numbers
 pub numbers_said : (dialect : Dialect) (code : ℕ) (target : Option TargetView) → IsCodeIn dialect code target
-    → (code ≡ 3) ⊎ (code ≡ 4) → has_numbers target ≡ true
+    → (code ≡ 3) ⊎ (code ≡ 7) → has_numbers target ≡ true
 numbers_said dialect code target is (inl three) = is.column.numbers three
-numbers_said dialect code target is (inr four) = amounts_have target (is.amounts four).column
+numbers_said dialect code target is (inr seven) = amounts_have target (is.amounts seven).column
 
 -- amounts of a kind
 abbrev KindAmounts : Option Kind → Type 0
@@ -240,7 +240,7 @@ same_code dialect code old new same is = record {
     read = λ some. from_kind code new (subst (IsKindAs code) (sym same) (to_kind code old (is.column.read some)));
   };
   no_number = is.no_number;
-  amounts = λ four. same_amounts dialect old new same (is.amounts four);
+  amounts = λ seven. same_amounts dialect old new same (is.amounts seven);
   bare = λ six. same_bare dialect old new same (is.bare six);
 }
 

@@ -1,11 +1,11 @@
 -- What a column says of all its cells, as a byte.
 -- 0: nothing is known, and the column is asked at each cell. 1: its cells aren't read. 2: they are
--- texts. 3: they are numbers, which the column is asked for at each cell. 4: they are amounts,
--- which it reads as such. 5: they are numbers, which it parses. 6: they are numbers, which it
--- parses, and each cell is a number, alone or within quotes, without blanks or a mark. 8 and more: decimal
--- digits behind an optional minus are read as numbers of u8, u16, u32, u64, i8, i16, i32 or i64, in
--- this order, whatever else the format allows. 16 is added where a number may be missing, and 32
--- where no zero may stand in front of another digit.
+-- texts. 3: they are numbers, which the column is asked for at each cell. 5: they are numbers, which
+-- it parses. 6: so they are, and each cell is a number, alone or within quotes, without blanks or a
+-- mark. 7: they are amounts, which it reads as such. 8 and more: decimal digits behind an optional
+-- minus are read as numbers of u8, u16, u32, u64, i8, i16, i32 or i64, in this order, whatever else
+-- the format allows. 16 is added where a number may be missing, and 32 where no zero may stand in
+-- front of another digit.
 use Rattle.std.specs.Prelude.{◌≡◌, ◌-◌, ◌*◌, ◌%◌, ◌^◌, ◌<◌, ◌≤◌, ◌⊎◌, ℕ, Bool, false, true, IsTrue, List, get_or, length, nat_le, slice_index, Option, Some, None, is_some, option_map}
 use Rattle.lexical_util.specs.Format.{Format}
 use Rattle.lexical_util.specs.Number.{IntegerType, IsNumber, integer_type}
@@ -74,7 +74,7 @@ pub record IsBareIn (dialect : Dialect) (target : Option TargetView) : Type 0 wh
 pub record IsCodeIn (dialect : Dialect) (code : ℕ) (target : Option TargetView) : Type 0 where
   pub column : IsCode code target
   pub no_number : 8 ≤ code → has_coded_bits code ≡ true → ends_in_digit dialect.missing.now ≡ false
-  pub amounts : code ≡ 4 → IsAmountsIn dialect target
+  pub amounts : code ≡ 7 → IsAmountsIn dialect target
   pub bare : code ≡ 6 → IsBareIn dialect target
 
 -- each column with a place among the codes has its code

@@ -30,16 +30,16 @@ pub const TEXTS: u8 = 2;
 /// The column's cells are numbers, of which `read_at_once` has most.
 pub const AT_ONCE: u8 = 3;
 
-// The column's cells are amounts, which `TableColumn::read_amount` reads. A table's reader says it, of a column that says
-// `AT_ONCE`.
-pub(crate) const AMOUNTS: u8 = 4;
-
 /// The column's cells are numbers that `read_parsed` and `read_left` parse: `read_at_once` isn't asked for them.
 pub const PARSED: u8 = 5;
 
 // The column's cells are numbers which `TableColumn::read_parsed` parses: neither blanks nor a mark stand in them. A table's
 // reader says it, of a column that says `PARSED`.
 pub(crate) const BARE: u8 = 6;
+
+// The column's cells are amounts, which `TableColumn::read_amount` reads. A table's reader says it, of a column that says
+// `AT_ONCE`.
+pub(crate) const AMOUNTS: u8 = 7;
 
 /// Numbers of 8 bits without a sign.
 pub const U8: u8 = 8;

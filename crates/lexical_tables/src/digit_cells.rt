@@ -8,7 +8,7 @@ ghost use Rattle.lexical_tables.specs.ByColumn.{IsUsable, fault_in, kind_of, put
 ghost use Rattle.lexical_tables.specs.Cells.{answer_as, quote_fault, view_of_cell};
 ghost use Rattle.lexical_tables.specs.Codes.{AreQuotesRound, IsBareIn, IsCodeIn, IsDecimal, IsNumberPut, IsNumeralUnder, IsReadAs, has_zero_rule};
 
-use crate::codes::{AMOUNTS, BARE, NOT_READ, PARSED, TEXTS, U8, WITH_ZERO_RULE};
+use crate::codes::{AMOUNTS, AT_ONCE, BARE, NOT_READ, PARSED, TEXTS, U8, WITH_ZERO_RULE};
 use crate::content::{Cell, content};
 use crate::dialect::Dialect;
 use crate::known_cells::{read_parsed_cell, read_text_cell};
@@ -233,19 +233,25 @@ pub(crate) fn read_coded<
     ensures kept { result ≡ false → C.target target.new ≡ C.target target.old }
 {
     if !is_typed::<ALL_STANDARD>(code) {
+        if HAS_CALLS && code > AT_ONCE {
+            if code == PARSED {
+                return read_parsed_cell(target, row, ahead, size, dialect, options);
+            }
+            if code == BARE {
+                return read_bare_cell::<C, HAS_QUOTES>(target, row, ahead, size, dialect, options);
+            }
+            if code == AMOUNTS {
+                return read_amount::<C, HAS_QUOTES>(target, row, ahead, size, dialect);
+            }
+            return false;
+        }
+        if code == NOT_READ {
+            return shows_no_fault(ahead, size, HAS_QUOTES);
+        }
         if HAS_CALLS && code == TEXTS {
             return read_text_cell(target, row, start, ahead, size, dialect);
         }
-        if HAS_CALLS && code == AMOUNTS {
-            return read_amount::<C, HAS_QUOTES>(target, row, ahead, size, dialect);
-        }
-        if HAS_CALLS && code == BARE {
-            return read_bare_cell::<C, HAS_QUOTES>(target, row, ahead, size, dialect, options);
-        }
-        if HAS_CALLS && code == PARSED {
-            return read_parsed_cell(target, row, ahead, size, dialect, options);
-        }
-        return code == NOT_READ && shows_no_fault(ahead, size, HAS_QUOTES);
+        return false;
     }
     let (held, count) = within_quotes(ahead, size, HAS_QUOTES);
     put_found(
