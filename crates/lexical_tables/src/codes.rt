@@ -112,7 +112,7 @@ pub(crate) enum Loop {
     WithCalls,
 }
 
-// Which loop reads the columns that one reads, and one more that has a code.
+// The loop for these columns and one more, which has a code.
 #[inline(always)]
 fn with_code(columns: Loop, code: u8) -> Loop
     ensures columns { result ≡ Standard → columns ≡ Standard }

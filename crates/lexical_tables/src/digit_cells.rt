@@ -233,6 +233,7 @@ pub(crate) fn read_coded<
     ensures kept { result ≡ false → C.target target.new ≡ C.target target.old }
 {
     if !is_typed::<ALL_STANDARD>(code) {
+        // (in two short chains: of one the compiler would make a table of jumps, which takes longer)
         if HAS_CALLS && code > AT_ONCE {
             if code == PARSED {
                 return read_parsed_cell(target, row, ahead, size, dialect, options);

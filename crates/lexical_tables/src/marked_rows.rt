@@ -374,7 +374,8 @@ fn read_called_rows<C: TableColumn, const HAS_QUOTES: bool>(
     )
 }
 
-// `read_columns` of a text with marks, once for tables with quotes and once for others: out of line, so that each has one loop.
+// `read_columns` of a text with marks, once for tables with quotes and once for others: out of line, so that each has its own
+// loops.
 #[inline(never)]
 pub(crate) fn read_rows<C: TableColumn, const HAS_QUOTES: bool>(
     text: &[u8],
