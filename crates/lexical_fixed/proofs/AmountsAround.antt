@@ -1,13 +1,13 @@
 -- Short amounts by words: digits around a point, with separators before it, are what the whole text stands for.
-use Rattle.std.proofs.Common.{◌≡◌, ℕ, suc, ◌+◌, ◌-◌, ◌*◌, ◌^◌, ◌≤◌, Bool, true, false, ◌&&◌, IsTrue, List, [], ◌∷◌, ◌++◌, length, take, drop, Option, Some, None, IsNone, is_some, Ok, refl, sym, ap, subst, ◌∙◌, arith, inl}
+use Rattle.std.proofs.Common.{◌≡◌, ℕ, zero, suc, ◌+◌, ◌-◌, ◌*◌, ◌^◌, ◌≤◌, Bool, true, false, not, ◌&&◌, IsTrue, List, [], ◌∷◌, ◌++◌, length, take, drop, Option, Some, None, IsNone, is_some, Ok, refl, sym, ap, subst, ◌∙◌, arith, inl}
 use Rattle.std.proofs.Math.IntN.{ℤ, nat_abs, pos}
 use Rattle.std.proofs.lemmas.Bool.Decides.{nat_tests}
 use Rattle.std.proofs.Math.Nat.{one-le-pow, mul-le-mul_left}
 use Rattle.std.proofs.lemmas.List.{take_all}
 use Rattle.std.proofs.lemmas.List.Elements.{filter_map-append}
-use Rattle.std.proofs.lemmas.Bool.{ltb-true}
+use Rattle.std.proofs.lemmas.Bool.{lt-ltb, ltb-true}
 use Rattle.std.proofs.lemmas.Int.{to_z-of_z}
-use Rattle.std.specs.Prelude.{◌==◌, IfSome, slice_get, slice_range}
+use Rattle.std.specs.Prelude.{◌==◌, IfSome, nat_lt, slice_get, slice_range}
 use mir.Syntax.{w64}
 use mir.Val.{bool_byte, of_z, to_z}
 use Rattle.lexical_util.specs.Ascii.{minus as minus_sign}
@@ -18,8 +18,9 @@ use Rattle.lexical_util.specs.Validity.{fault}
 use Rattle.lexical_digits.specs.Value.{positional_value, with_sign}
 use Rattle.lexical_digits.specs.Words.{AreDigits, word_value}
 use Rattle.lexical_digits.proofs.DigitValues.{positional_value-append, with_sign-step}
+use Rattle.lexical_digits.proofs.LongNumbers.{sign_held}
 use Rattle.lexical_parse_integer.specs.Fronts.{number_in_front}
-use Rattle.lexical_parse_integer.specs.Grammar.{complete, partial}
+use Rattle.lexical_parse_integer.specs.Grammar.{complete, fault_if, first_fault_or, partial, range_error}
 use Rattle.lexical_parse_integer.specs.Laws.{Completes}
 use Rattle.lexical_parse_integer.specs.Grouped.{AreGrouped, AreWorth, digits_among}
 use Rattle.lexical_parse_integer.specs.Head.{sign}
@@ -29,16 +30,16 @@ use Rattle.lexical_parse_integer.proofs.ForCallers.{fits, groups_read, head_is, 
 use Rattle.lexical_fixed.specs.Append.{IsAppended}
 use Rattle.lexical_fixed.specs.Around.{IsShortAmount, IsValueAround}
 use Rattle.lexical_fixed.specs.Fixed.{Fixed}
-use Rattle.lexical_fixed.specs.Fraction.{read_zeros, with_digits}
+use Rattle.lexical_fixed.specs.Fraction.{read_zeros, with_digits, with_zeros, zeros_fault}
 use Rattle.lexical_fixed.specs.Grammar.{complete_fixed, is_negative}
 use Rattle.lexical_fixed.specs.Parted.{IsParted, point_place}
 use Rattle.lexical_fixed.specs.Quick.{HasPoint}
 use Rattle.lexical_fixed.specs.Validity.{fixed_fault}
 use Rattle.lexical_fixed.proofs.Appended.{appended_sign}
 use Rattle.lexical_fixed.proofs.AroundPoint.{among_digits, among_length}
-use Rattle.lexical_fixed.proofs.Digits.{is_number-below}
+use Rattle.lexical_fixed.proofs.Digits.{is_number-below, times_is}
 use Rattle.lexical_fixed.proofs.LastPoints.{SameBehind, part_is, part_sign, parted_units, whole_is}
-use Rattle.lexical_fixed.proofs.QuickDigits.{no_zeros}
+use Rattle.lexical_fixed.proofs.QuickDigits.{no_zeros, no_zeros_fault}
 use Rattle.lexical_fixed.proofs.ShortNumbers.{behind_drop, behind_length}
 use Rattle.lexical_fixed.proofs.ShortUnits.{parted_by}
 use Rattle.lexical_fixed.proofs.Valid.{integer_valid}
@@ -89,7 +90,10 @@ module _ (f : Fixed) (t : IntegerType) (b : Bool) (text bytes : List ℕ) (count
   abbrev place : ℕ
   place = length bytes - 1 - count
 
-  abbrev a : IsValueAround t b f.integer place bytes v
+  abbrev w : ℤ
+  w = m.written
+
+  abbrev a : IsValueAround t b f.integer place bytes w
   a = m.around
 
   size : length bytes ≡ place + 1 + count
@@ -116,7 +120,7 @@ module _ (f : Fixed) (t : IntegerType) (b : Bool) (text bytes : List ℕ) (count
       ∙ ap (λ n. worth * 10 ^ n + positional_value 10 (digits_among 10 rest)) long
       ∙ ap (λ ds. worth * 10 ^ length rest + positional_value 10 ds) values
 
-  appended : v ≡ with_digits b whole rest
+  appended : w ≡ with_digits b whole rest
   unfolding with_digits
   appended = a.worth ∙ ap (with_sign b) sum ∙ sym (with_sign-step b worth (10 ^ length rest) (word_value 10 rest))
 
@@ -157,16 +161,15 @@ module _ (f : Fixed) (t : IntegerType) (b : Bool) (text bytes : List ℕ) (count
       whole_groups f.integer t b _ part whole (integer_valid f valid) decimal m.no_sign before_is a.around.part m.rule (record { worth = refl; fits = part_fits }) in
       let is = part_is f t text count front number valid letter at completes whole read in
       let held : HasSign (is_negative t text) whole = part_sign f.integer t text whole _ is in
-      let more : IsAppended t (is_negative t text) whole (drop (length text - count) text) v = record {
+      let more : IsAppended t (is_negative t text) whole (drop (length text - count) text) w = record {
         digits = subst (λ (bs : List ℕ). AreDigits 10 bs) (sym behind_is) a.around.fraction;
         worth = appended ∙ ap (λ c. with_digits c whole rest) minus ∙ ap (with_digits (is_negative t text) whole) (sym behind_is);
         fits = λ some. a.fits;
       } in
-      let signed = appended_sign t (is_negative t text) whole _ v held more in
-      let none : f.places - count ≡ 0 = let all = m.all in omega arith in
-      let zeros = no_zeros t (is_negative t text) v (length text) signed in
-      sym (whole_is f t text whole _ is)
-      ∙ parted_units f t text count whole v v at held more (sym (ap (λ k. read_zeros t (is_negative t text) v k (length text)) none ∙ rw (zeros.0, zeros.1) refl))
+      let zeros : ℕ = f.places - count in
+      let none = no_zeros_fault t (is_negative t text) w zeros (length text) (ap (is_number t) (sym m.worth) ∙ m.fits) in
+      let units : Ok v ≡ read_zeros t (is_negative t text) w zeros (length text) = rw none (ap Ok m.worth) in
+      sym (whole_is f t text whole _ is) ∙ parted_units f t text count whole w v at held more units
 
 -- the separator of a valid description is no digit
 pub separator_no_digit : (f : Fixed) → IsNone (fixed_fault f) → IfSome f.integer.digit_separator (λ byte. digit 10 byte ≡ None)
@@ -176,13 +179,30 @@ separator_no_digit f valid = by_byte f.integer.digit_separator refl
     by_byte None is = tt
     by_byte (Some byte) is = ap (λ r. digit r byte) (sym (decimal_of f valid).radix) ∙ (fits f.integer (integer_valid f valid)).separator byte is
 
--- what is found is a short amount's value
-pub short_found : {V : Type 0} (number_of : V → ℤ) (f : Fixed) (t : IntegerType) (b : Bool) (bytes : List ℕ) (count : ℕ) (found : Option V)
-    → count + 2 ≤ length bytes → 1 ≤ count → count ≡ f.places → f.integer.required_mantissa_sign ≡ false → keeps_zero_rule f.integer (take (length bytes - 1 - count) bytes) ≡ true
-    → IfSome found (λ v. IsValueAround t b f.integer (length bytes - 1 - count) bytes (number_of v)) → IfSome found (λ v. IsShortAmount f t b bytes count (number_of v))
-short_found number_of f t b bytes count None before some all no_sign rule around = tt
-short_found number_of f t b bytes count (Some v) before some all no_sign rule around =
-    record { before = before; some = some; all = all; no_sign = no_sign; rule = rule; around = around }
+-- the number with its zeros, where it has a value
+zeros_told : (t : IntegerType) (b : Bool) (written units : ℤ) (zeros place : ℕ) → HasSign b written → IsNumber t written → Ok units ≡ read_zeros t b written zeros place → (units ≡ with_zeros written zeros) × IsNumber t units
+unfolding zeros_fault
+zeros_told t b written units zero place signed held told =
+    let is : units ≡ with_zeros written 0 = cc in
+    let none : with_zeros written 0 ≡ written = (no_zeros t b written place signed).1 in
+    (is, ap (is_number t) (is ∙ none) ∙ held)
+zeros_told t b written units (suc n) place signed held told =
+    let some : nat_lt 0 (suc n) ≡ true = lt-ltb 0 (suc n) (omega arith) in
+    by_test (is_number t (with_zeros written (suc n))) refl
+    (subst (λ (x : Bool). Ok units ≡ first_fault_or (fault_if (x && not (is_number t (with_zeros written (suc n)))) (range_error b place) ∷ []) (with_zeros written (suc n))) some told)
+  where
+    by_test : (fits : Bool) → is_number t (with_zeros written (suc n)) ≡ fits
+        → Ok units ≡ first_fault_or (fault_if (not fits) (range_error b place) ∷ []) (with_zeros written (suc n)) → (units ≡ with_zeros written (suc n)) × IsNumber t units
+    by_test true fits told = let is : units ≡ with_zeros written (suc n) = cc in (is, ap (is_number t) is ∙ fits)
+    by_test false fits told = absurd (cc)
+
+-- such digits and their zeros are a short amount
+pub short_found : (f : Fixed) (t : IntegerType) (b : Bool) (bytes : List ℕ) (count : ℕ) (written units : ℤ)
+    → count + 2 ≤ length bytes → 1 ≤ count → f.integer.required_mantissa_sign ≡ false → keeps_zero_rule f.integer (take (length bytes - 1 - count) bytes) ≡ true
+    → IsValueAround t b f.integer (length bytes - 1 - count) bytes written → Ok units ≡ read_zeros t b written (f.places - count) 0 → IsShortAmount f t b bytes count units
+short_found f t b bytes count written units before some no_sign rule around read =
+    let told = zeros_told t b written units (f.places - count) 0 (sign_held b written around.number around.worth) around.fits read in
+    record { before = before; some = some; no_sign = no_sign; rule = rule; written = written; around = around; worth = told.0; fits = told.1 }
 
 -- what is found is what the whole text stands for
 pub short_amounts : {V : Type 0} (number_of : V → ℤ) (f : Fixed) (t : IntegerType) (b : Bool) (text bytes : List ℕ) (count : ℕ) (found : Option V)
@@ -196,17 +216,28 @@ short_amounts number_of f t b text bytes count (Some v) behind minus front numbe
 
 -- ---- in each type
 
+-- what a short amount without a sign is worth
+pub short_worth : (f : Fixed) (t : IntegerType) (bytes : List ℕ) (count : ℕ) (v : ℤ) (m : IsShortAmount f t false bytes count v) → v ≡ pos (m.around.number * 10 ^ (f.places - count))
+short_worth f t bytes count v m =
+    m.worth ∙ ap (λ z. with_zeros z (f.places - count)) m.around.worth ∙ times_is false m.around.number (10 ^ (f.places - count))
+
 -- digits that have a value in one type have it in each that has the number
 in_type : (f : Fixed) (s t : IntegerType) (b : Bool) (bytes : List ℕ) (count n : ℕ) (v : ℤ) → v ≡ pos n → IsNumber t (with_sign b n) → IsShortAmount f s false bytes count v → IsShortAmount f t b bytes count (with_sign b n)
 in_type f s t b bytes count n v is fits m =
-    let same : n ≡ m.around.number = ap nat_abs (sym is ∙ m.around.worth) in
+    let number : ℕ = m.around.number in
+    let scale : ℕ = 10 ^ (f.places - count) in
+    let same : n ≡ number * scale = ap nat_abs (sym is ∙ short_worth f s bytes count v m) in
+    let one : 1 ≤ scale = one-le-pow (f.places - count) 10 (omega arith) in
+    let up : number * 1 ≤ number * scale = mul-le-mul_left number one in
     record {
       before = m.before;
       some = m.some;
-      all = m.all;
       no_sign = m.no_sign;
       rule = m.rule;
-      around = record { number = m.around.number; around = m.around.around; worth = ap (with_sign b) same; fits = fits };
+      written = with_sign b number;
+      around = record { number = number; around = m.around.around; worth = refl; fits = is_number-below t b number n (omega (arith, same, up)) fits };
+      worth = ap (with_sign b) same ∙ sym (times_is b number scale);
+      fits = fits;
     }
 
 behind_in : (s t : IntegerType) (b : Bool) (text bytes : List ℕ) → (IsTrue b → t.is_signed ≡ true) → IsBehind b s text bytes → IsBehind b t text bytes

@@ -7,6 +7,7 @@ use Rattle.lexical_digits.specs.Words.{AreDigits}
 use Rattle.lexical_parse_integer.specs.Grouped.{AreGrouped, digits_among}
 use Rattle.lexical_parse_integer.specs.Plain.{keeps_zero_rule}
 use Rattle.lexical_fixed.specs.Fixed.{Fixed}
+use Rattle.lexical_fixed.specs.Fraction.{with_zeros}
 use Rattle.lexical_fixed.specs.Quick.{without}
 
 -- The bytes before a place are decimal digits, with separators that the format admits between them; those behind the byte
@@ -24,12 +25,15 @@ pub record IsValueAround (type : IntegerType) (is_negative : Bool) (format : For
   pub worth : value ≡ with_sign is_negative number
   pub fits : IsNumber type value
 
--- Digits around a point, with `count` of them behind it, all places. Those before it keep the rule on zeros, and need no sign.
+-- Digits around a point, with `count` of them behind it, in units of the last place. Those before it keep the rule on zeros,
+-- and need no sign.
 pub record IsShortAmount (fixed : Fixed) (type : IntegerType) (is_negative : Bool) (bytes : List ℕ)
     (count : ℕ) (value : ℤ) : Type 0 where
   pub before : count + 2 ≤ length bytes
   pub some : 1 ≤ count
-  pub all : count ≡ fixed.places
   pub no_sign : fixed.integer.required_mantissa_sign ≡ false
   pub rule : keeps_zero_rule fixed.integer (take (length bytes - 1 - count) bytes) ≡ true
-  pub around : IsValueAround type is_negative fixed.integer (length bytes - 1 - count) bytes value
+  pub written : ℤ
+  pub around : IsValueAround type is_negative fixed.integer (length bytes - 1 - count) bytes written
+  pub worth : value ≡ with_zeros written (fixed.places - count)
+  pub fits : IsNumber type value

@@ -93,8 +93,8 @@ fn is_told_before(text: &[u8], format: &FixedFormat, error: Error) -> bool
     }
 }
 
-// The value of up to sixteen bytes: digits around a point with all places behind it, which are seven at most. With up to three
-// places those before it may stand in groups of three.
+// The number in units of up to sixteen bytes: digits around a point with `count` of them behind it, which are seven at most. With
+// up to three there, those before the point may stand in groups of three.
 #[inline(always)]
 fn value_by_words<T: Integer, const CALLER: u8>(
     digits: &[u8],
@@ -103,11 +103,12 @@ fn value_by_words<T: Integer, const CALLER: u8>(
     is_negative: bool,
 ) -> Option<T>
     requires valid { IsNone (fixed_fault format.now) }
+    requires room { count ≤ format.now.places }
     requires minus { IsTrue is_negative → IsTrue T.TYPE.is_signed }
     ensures { IfSome result (λ value. IsShortAmount format.now T.TYPE is_negative digits.now count
         (T.number value)) }
 {
-    if count != format.places() || count == 0 || count > 7 {
+    if count == 0 || count > 7 {
         return None;
     }
     if format.integer().required_mantissa_sign() {
@@ -121,10 +122,14 @@ fn value_by_words<T: Integer, const CALLER: u8>(
     if !keeps_zero_rule(format.integer(), &digits[..place]) {
         return None;
     }
-    value_around_point::<T, CALLER>(digits, format.integer(), place, is_negative)
+    let written = value_around_point::<T, CALLER>(digits, format.integer(), place, is_negative)?;
+    match read_zeros::<T>(written, format.places() - count, 0, is_negative) {
+        Ok(units) => Some(units),
+        Err(_) => None,
+    }
 }
 
-// The number of a short text with all places, as `value_by_words` reads it.
+// The number of a short text, as `value_by_words` reads it.
 #[inline(always)]
 fn units_by_words<T: Integer>(text: &[u8], format: &FixedFormat, count: usize) -> Option<T>
     requires valid { IsNone (fixed_fault format.now) }
@@ -144,15 +149,29 @@ fn units_by_words<T: Integer>(text: &[u8], format: &FixedFormat, count: usize) -
 #[inline(never)]
 fn number_of_cell(digits: &[u8], format: &FixedFormat, count: usize) -> Option<i64>
     requires valid { IsNone (fixed_fault format.now) }
+    requires room { count ≤ format.now.places }
     ensures { IfSome result
         (λ value. IsShortAmount format.now (integer_type 64 true) false digits.now count value) }
 {
     value_by_words::<i64, { callers::CELL }>(digits, format, count, false)
 }
 
+// How many bytes stand behind the point: it is looked for first where all places stand behind it.
+#[inline(always)]
+fn places_in_cell(text: &[u8], format: &FixedFormat) -> Option<usize>
+    requires { 2 ≤ length text.now }
+    ensures { IfSome result (IsParted format.now text.now) }
+{
+    let places = format.places();
+    if point_before(text, format, places).is_some() {
+        return Some(places);
+    }
+    places_written(text, format)
+}
+
 /// The number that a whole text stands for in each type that has it, and whether a minus stands in front: for most texts of up to
-/// sixteen bytes behind that, digits around a point with all places, which are seven at most. With up to three places, the digits
-/// before the point may stand in groups of three. `None` says nothing of the text.
+/// sixteen bytes behind that, digits around a point. Behind it stand all places, or fewer if the description takes that, and seven
+/// at most; with up to three, the digits before it may stand in groups of three. `None` says nothing of the text.
 #[inline(always)]
 pub fn units_in_groups(text: &[u8], format: &FixedFormat) -> Option<(bool, u64)>
     requires valid { IsNone (fixed_fault format.now) }
@@ -167,10 +186,7 @@ pub fn units_in_groups(text: &[u8], format: &FixedFormat) -> Option<(bool, u64)>
     if text.len() < 2 || char_is_digit(format.point(), 36) {
         return None;
     }
-    let count = format.places();
-    if point_before(text, format, count).is_none() {
-        return None;
-    }
+    let count = places_in_cell(text, format)?;
     let (is_negative, digits) = behind_minus::<i64>(text);
     let number = number_of_cell(digits, format, count)?;
     Some((is_negative, number as u64))
