@@ -32,7 +32,10 @@ case " \$* " in *" -o module.o "*) "$kit/toolchain/bin/clang" "\$@" -S -fno-addr
 END
 chmod 755 "$work/kit/toolchain/bin/clang"
 (cd crates/jadvolni && "$work/kit/bin/rt" lib) > "$work/log" 2>&1 || { tail -n 20 "$work/log" >&2; exit 1; }
-cmp crates/jadvolni/out/libjadvolni.a "$archive"
+packaging/align.sh crates/jadvolni/out/libjadvolni.a "$work/aligned.a"
+cmp "$work/aligned.a" "$archive"
+# Functions begin where they do in the archive.
+sed -i '/^\t\.section\t\.text\./{n;s/^\t\.p2align\t4/\t.p2align\t6/}' "$work/jadvolni.S"
 grep '^logic=proved' "$work/log" > "$verdict"
 
 # An object's instructions without padding, which can be encoded in several ways, and its constants.

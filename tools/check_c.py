@@ -86,6 +86,16 @@ def static_library(place: Place) -> str:
     return exported(name for kind, _, name in symbols if kind == "T")
 
 
+def functions_by_lines(place: Place) -> str:
+    """Each function of the archive begins with a line of the processor's cache."""
+    needs("objcopy", "readelf")
+    said = run(["readelf", "-SW", place.library("libjadvolni.a")])
+    found = re.findall(r"(?m) \.text\.\S+ .* (\d+)$", said)
+    if set(found) != {"64"}:
+        raise Failed(f"functions begin at multiples of {sorted(set(found))} bytes")
+    return f"{len(found)} functions"
+
+
 def size_in_readme(library: str) -> str:
     """The size of the shared library: README's is within 5 in 100 of it."""
     size = os.path.getsize(library) / 1000
@@ -444,6 +454,7 @@ def steps(place: Place) -> Iterator[Step]:
     example = partial(by_pkg_config, place)
     yield "layout of header and crates", layout
     yield "what the static library is", partial(static_library, place)
+    yield "where functions of the static library begin", partial(functions_by_lines, place)
     yield "what the shared library is", partial(shared_library, place)
     yield "flags of a distribution", partial(flags_of_a_distribution, place)
     yield "test vectors, by the shared library", partial(worked_rows, place)

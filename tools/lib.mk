@@ -24,7 +24,7 @@ lib: build/libjadvolni.a $(SHARED) ## proves and builds the library for C, as bu
 build/libjadvolni.a: $(LIBRARY_SOURCES)
 	@mkdir -p build
 	@RT="$(RT)" tools/build.sh jadvolni
-	@cp crates/jadvolni/out/libjadvolni.a $@
+	@packaging/align.sh crates/jadvolni/out/libjadvolni.a $@
 
 # What the archive exports: each call, with the version that introduced it.
 EXPORTED = nm -g --defined-only $(1) | LC_ALL=C sort -k 3 | awk -v new=$(basename $(VERSION)) \
