@@ -313,5 +313,55 @@ class Files(unittest.TestCase):
                 self.assertLess(int(run.stdout), least)
 
 
+class ReadAhead(unittest.TestCase):
+    """Blocks of a path, which threads read before they are asked for."""
+
+    def rows(self, text, pread, size=16):
+        """What is read of a path by three threads, with this call in the place of os.pread."""
+        with tempfile.TemporaryDirectory() as folder:
+            path = pathlib.Path(folder, "table")
+            path.write_bytes(text)
+            with mock.patch("os.pread", pread):
+                return read_table(path, {"a": "u16"}, size=size, threads=3)["a"].tolist()
+
+    def test_all_that_is_read(self):
+        """Whether a call gives all that it is asked for, or less."""
+        read, numbers = os.pread, list(range(500))
+        text = b"".join(b"%d\n" % it for it in numbers)
+        for most in 1, 3, 1 << 20:
+            for size in 5, 64, len(text), len(text) + 1:
+                self.assertEqual(numbers, self.rows(
+                    text, lambda file, want, at: read(file, min(want, most), at), size))
+
+    def test_a_file_that_is_cut_or_grows(self):
+        """What stands behind an end that was seen isn't read."""
+        read, ends = os.pread, []
+
+        def cut(file, want, at):
+            return read(file, min(want, max(32 - at, 0)), at)
+
+        def grown(file, want, at):
+            ends.append(at)
+            return b"" if at == 32 and ends.count(32) == 1 else read(file, want, at)
+
+        text = b"1\n" * 100
+        self.assertEqual(self.rows(text, cut), [1] * 16)
+        self.assertEqual(self.rows(text, grown), [1] * 16)
+
+    def test_a_file_that_cant_be_read(self):
+        read = os.pread
+
+        def failing(file, want, at):
+            if at >= 48:
+                raise OSError(5, "Input/output error")
+            return read(file, want, at)
+
+        with self.assertRaisesRegex(OSError, "Input/output error"):
+            self.rows(b"1\n" * 100, failing)
+        with self.assertRaises(ParseError) as caught:  # (what comes first is told)
+            self.rows(b"1\nx\n" + b"1\n" * 100, failing)
+        self.assertEqual(caught.exception.place, 2)
+
+
 if __name__ == "__main__":
     unittest.main()

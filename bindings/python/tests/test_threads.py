@@ -206,6 +206,7 @@ class Threads(unittest.TestCase):
             return make(most)
 
         with mock.patch("jadvolni._threads.Pool", pool), \
+                mock.patch("jadvolni._tables.Pool", pool), \
                 mock.patch("os.sched_getaffinity", lambda _: set(range(8))):
             yield found
 

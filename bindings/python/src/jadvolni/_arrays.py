@@ -53,3 +53,13 @@ def cut(values: Any, count: int) -> Any:
     if len(values) - count > len(values) // 4 + _FEW:
         values.resize(count, refcheck=False)
     return values if len(values) == count else values[:count]
+
+
+def copy_front(values: Any, count: int, to: Any, place: int) -> None:
+    """Copies the first `count` numbers of an array to a place of another. NumPy lets other threads
+    run meanwhile."""
+    if isinstance(to, array):
+        with memoryview(values) as numbers, memoryview(to) as places:
+            places[place:place + count] = numbers[:count]
+    else:
+        to[place:place + count] = values[:count]

@@ -5,6 +5,7 @@ from __future__ import annotations
 import io
 import os
 import stat
+from collections import deque
 from contextlib import suppress
 from typing import TYPE_CHECKING, Any, Callable, Iterator, Optional, Protocol, Union
 
@@ -13,8 +14,10 @@ from ._format import Format, _integer, bytes_of
 
 if TYPE_CHECKING:
     from array import array
+    from concurrent.futures import Future
 
     from ._core import NumberType
+    from ._pool import Pool
 
 # The largest memory that the allocator learns from.
 _LARGE = 31 << 20
@@ -24,6 +27,8 @@ _PIECE = 1 << 18
 _FRONT = 1 << 12
 # No block has more bytes than this: a file may make room for all that it is asked for.
 _MOST = 1 << 30
+# So many blocks are read before they are asked for.
+_AHEAD = 3
 # A block of a file, or a piece of one.
 Block = Union[bytes, memoryview]
 
@@ -99,6 +104,37 @@ def _size_left(file: Any) -> int:
         if stat.S_ISREG(status.st_mode):
             return max(status.st_size - int(file.tell()), 0)
     return 0
+
+
+def _read_at(descriptor: int, size: int, place: int) -> bytes:
+    """The bytes of a file from a place on: `size` of them, or those up to its end."""
+    found = os.pread(descriptor, size, place)
+    while 0 < len(found) < size and (more := os.pread(descriptor, size - len(found),
+                                                      place + len(found))):
+        found += more
+    return found
+
+
+class ReadAhead:
+    """A regular file whose blocks of `size` bytes a pool reads before they are asked for."""
+
+    def __init__(self, file: Any, size: int, pool: Pool) -> None:
+        self.descriptor, self.place = file.fileno(), file.tell()
+        self.size, self.pool = min(size, _MOST), pool
+        self.waiting: deque[Future[bytes]] = deque()
+        self.is_ended = False
+
+    def read(self, _: int, /) -> bytes:
+        """The next block, of fewer bytes at the file's end, and none after it."""
+        while len(self.waiting) < _AHEAD and not self.is_ended:
+            self.waiting.append(
+                self.pool.submit(_read_at, self.descriptor, self.size, self.place))
+            self.place += self.size
+        block = self.waiting.popleft().result() if self.waiting else b""
+        if len(block) < self.size:
+            self.is_ended = True
+            self.waiting.clear()
+        return block
 
 
 class Blocks:

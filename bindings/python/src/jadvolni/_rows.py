@@ -5,7 +5,7 @@ from __future__ import annotations
 import sys
 from typing import TYPE_CHECKING, Any, Optional
 
-from ._arrays import cut, grown
+from ._arrays import copy_front, cut, grown
 from ._core import _move_bits, _text_size
 from ._faults import Fault, Part
 from ._reader import Reader, pair_of, with_pair
@@ -13,7 +13,10 @@ from ._table import Table
 from ._texts import Room, TextColumn, offsets_of
 
 if TYPE_CHECKING:
+    from concurrent.futures import Future
+
     from ._core import Text
+    from ._pool import Pool
 
 # The first room is for this many rows, which tell how much a text needs, and any room has this many
 # rows to spare.
@@ -44,6 +47,8 @@ class Rows:
         self.fault: Optional[Fault] = None
         self.arrays = Table()
         self.targets: tuple[Optional[tuple[Any, ...]], ...] = ()
+        # Numbers that threads copy into the arrays.
+        self.copies: list[Future[None]] = []
 
     @classmethod
     def of(
@@ -137,19 +142,26 @@ class Rows:
             bits = grown(self.reader.numpy, bits, size, kept)
         return with_pair(values, more, bits)
 
-    def append(self, other: Rows, behind: int) -> None:
-        """Appends the rows of another. About `behind` more bytes follow them."""
+    def append(self, other: Rows, behind: int, pool: Pool) -> None:
+        """Appends the rows of another, whose numbers the pool copies. About `behind` more bytes
+        follow them."""
         if self.room - self.count < other.count or not self.room:
+            self.finish()
             self.grow(max(other.count, self._guess(behind), self.count // 2))
         for name, values in other.arrays.items():
             (numbers, bits), (to, to_bits) = pair_of(values), pair_of(self.arrays[name])
-            with memoryview(numbers) as rows, memoryview(to) as places:
-                places[self.count:self.count + other.count] = rows[:other.count]
+            self.copies.append(pool.submit(copy_front, numbers, other.count, to, self.count))
             if bits is not None:
                 _move_bits(to_bits, self.count, bits, other.count)
             if isinstance(values, Room):
                 self.arrays[name].data.extend(values.data)
         self.count, self.bad = self.count + other.count, self.bad + other.bad
+
+    def finish(self) -> None:
+        """Waits until all numbers are where they belong."""
+        for copy in self.copies:
+            copy.result()
+        self.copies = []
 
     def table(self, before: int = 0) -> Table:
         """The rows as a table of its own arrays. `before` rows stand in tables before it."""

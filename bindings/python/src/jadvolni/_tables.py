@@ -7,50 +7,26 @@ import os
 import sys
 from contextlib import nullcontext, suppress
 from typing import (TYPE_CHECKING, Any, BinaryIO, Callable, ContextManager, Iterable, Iterator,
-                    Mapping, NamedTuple, Optional, Union)
+                    Mapping, Optional, Union)
 
-from ._blocks import (Block, Blocks, File, _block, _one_or_more, _size_left, ask_progress,
-                      keep_memory)
+from ._blocks import (Block, Blocks, File, ReadAhead, _block, _one_or_more, _size_left,
+                      ask_progress, keep_memory)
 from ._core import _row_count, _text_size
-from ._faults import AtFault, Errors, OnError, Part, at_fault, noting
-from ._files import Texts, read_texts, whole_rows
+from ._faults import Errors, OnError, Part, at_fault, noting
+from ._files import read_texts
 from ._format import bytes_of
 from ._header import read_header, with_header
+from ._opened import Asked, file_rows, read_by_pool, thread_count, told_rows
+from ._pool import Pool
 from ._reader import How, Reader, ask_type
 from ._rows import Rows
 from ._table import Table
 from ._texts import Text as TextKind
-from ._threads import parse_in_threads, raise_changed, rows_in_threads
+from ._threads import parse_in_threads, raise_changed
 
 if TYPE_CHECKING:
     from ._core import Text
     from ._reader import Columns
-
-
-# No call starts more threads than this, whatever it is asked for: each takes memory.
-_MOST_THREADS = 1024
-
-
-class _Asked(NamedTuple):
-    """The arguments of a call, without its text or file."""
-
-    columns: Columns
-    how: How
-    at: AtFault
-    header: bool
-    threads: int
-    out: Optional[Mapping[str, Any]] = None
-    size: int = 0
-    progress: Optional[Callable[[int], object]] = None
-
-    def reader(self, names: Optional[list[str]] = None) -> Reader:
-        """How the rows are read, after a header with these names, or without one."""
-        return Reader(self.columns, self.how, self.at, names)
-
-
-def _thread_count(threads: object) -> int:
-    """How many threads a call has, if it is asked for 1 or more."""
-    return min(_one_or_more("threads", threads), _MOST_THREADS)
 
 
 def _writable_size(values: Any) -> int:
@@ -101,9 +77,9 @@ def _parse(
     return found.table() if out is None else found.fronts()
 
 
-def _parse_text(text: Text, asked: _Asked) -> Table:
+def _parse_text(text: Text, asked: Asked) -> Table:
     """The rows of a text, with a header or without one."""
-    threads = _thread_count(asked.threads)
+    threads = thread_count(asked.threads)
     asked = asked._replace(how=with_header(asked.how, asked.header))
     if not asked.header:
         return _parse(asked.reader(), text, asked.out, threads, Part())
@@ -195,7 +171,7 @@ def parse_table(
     """
     how = How(separator, has_returns, has_quotes, allows_blanks, skips_empty_rows, missing, widths,
               is_records, allows_returns)
-    asked = _Asked(columns, how, at_fault(on_error, errors), header, threads, out)
+    asked = Asked(columns, how, at_fault(on_error, errors), header, threads, out)
     return _parse_text(text, asked)
 
 
@@ -253,7 +229,7 @@ def read_table(
               is_records, allows_returns)
     at = at_fault(on_error, errors, _name_of(file))
     ask_progress(progress)
-    asked = _Asked(columns, how, at, header, 1 if threads is None else threads, out, size, progress)
+    asked = Asked(columns, how, at, header, 1 if threads is None else threads, out, size, progress)
     if not isinstance(file, (str, os.PathLike)):
         if mmap:
             raise TypeError("file has to be a path where mmap is true")
@@ -264,7 +240,7 @@ def read_table(
                 return _parse_text(text, asked)
         if threads is None and out is None:
             asked = asked._replace(threads=_threads_for(opened, _one_or_more("size", size)))
-        return _read_opened(opened, asked)
+        return _read_opened(opened, asked, is_own=True)
 
 
 def _threads_for(file: BinaryIO, size: int) -> int:
@@ -287,51 +263,18 @@ def _mapped(file: BinaryIO) -> ContextManager[Any]:
     return nullcontext(_block(file, -1))
 
 
-def _opened(
-    file: File, asked: _Asked, size: int, threads: int, most: int
-) -> tuple[Reader, Iterator[Texts], int]:
-    """How a file is read, its rows by blocks of `size` bytes, and how many bytes its header has.
-
-    A row has at most `most` bytes. `progress` is called here for one thread, for more elsewhere.
-    """
-    asked = asked._replace(how=with_header(asked.how, asked.header))
-    is_alone = threads == 1
-    blocks = Blocks(file, size, asked.progress if is_alone else None, by_pieces=is_alone)
-    if not asked.header:
-        reader = asked.reader()
-        return reader, whole_rows(blocks, blocks, reader, most, Part()), 0
-    with noting(asked.at.source):
-        names, pieces, before = read_header(iter(blocks), asked.how, most)
-        reader = asked.reader(names)
-    return reader, whole_rows(pieces, blocks, reader, most, before), before.start
-
-
-def _told_rows(
-    asked: _Asked, reader: Reader, blocks: Iterator[Texts], start: int, rows: int, threads: int
-) -> Iterator[tuple[list[Rows], int]]:
-    """The rows of each block, read by threads, after a header of `start` bytes, with progress."""
-    if asked.progress and start:
-        asked.progress(start)
-    for found, block in rows_in_threads(reader, blocks, rows, threads):
-        yield found, block
-        if asked.progress and block:
-            asked.progress(block)
-
-
-def _read_opened(file: File, asked: _Asked) -> Table:
-    """The rows of an opened file."""
-    size, threads = _one_or_more("size", asked.size), _thread_count(asked.threads)
+def _read_opened(file: File, asked: Asked, is_own: bool = False) -> Table:
+    """The rows of an opened file. Blocks of one of our own may be read ahead of it."""
+    size, threads = _one_or_more("size", asked.size), thread_count(asked.threads)
     if asked.out is not None:  # (all its rows are counted before one is written)
         return _parse_text(b"".join(Blocks(file, size, asked.progress)), asked)
     left = _size_left(file)
-    reader, blocks, start = _opened(file, asked, size, threads, sys.maxsize)
-    rows, left = Rows(reader), left - start
     if threads > 1:
-        for found, block in _told_rows(asked, reader, blocks, start, sys.maxsize, threads):
-            left -= block
-            for more in found:
-                rows.append(more, left)
-        return rows.table()
+        with Pool(threads) as pool:
+            ahead = ReadAhead(file, size, pool) if left and is_own else file
+            return read_by_pool(ahead, asked, size, left, pool)
+    reader, blocks, start = file_rows(file, asked, size, threads, sys.maxsize)
+    rows, left = Rows(reader), left - start
     for texts in blocks:
         left -= texts.block
         for text, part in texts.parts:
@@ -378,20 +321,21 @@ def iter_table(
     part of the file, and a table may have no row.
     """
     rows, size = _one_or_more("rows", rows), _one_or_more("size", size)
-    threads = _thread_count(threads)
+    threads = thread_count(threads)
     how = How(separator, has_returns, has_quotes, allows_blanks, skips_empty_rows, missing, widths,
               is_records, allows_returns)
     at = at_fault(on_error, errors, _name_of(file))
     ask_progress(progress)
-    asked = _Asked(columns, how, at, header, threads, progress=progress)
-    reader, blocks, start = _opened(file, asked, size, threads, size)
+    asked = Asked(columns, how, at, header, threads, progress=progress)
+    reader, blocks, start = file_rows(file, asked, size, threads, size)
     count = 0
     if threads > 1:
-        for all_found, _ in _told_rows(asked, reader, blocks, start, rows, threads):
-            for found in all_found:
-                if found.end > found.row:
-                    yield found.table(count)
-                    count += found.count
+        with Pool(threads) as pool:
+            for all_found, _ in told_rows(asked, reader, blocks, start, rows, pool):
+                for found in all_found:
+                    if found.end > found.row:
+                        yield found.table(count)
+                        count += found.count
         return
     for found in read_texts(reader, blocks, rows, 0):
         if found.end > found.row:

@@ -141,7 +141,7 @@ def _read_part(reader: Reader, texts: Texts, most: int) -> tuple[list[Rows], lis
 
 
 def rows_in_threads(
-    reader: Reader, blocks: Iterable[Texts], most: int, threads: int
+    reader: Reader, blocks: Iterable[Texts], most: int, threads: int, pool: Pool
 ) -> Iterator[tuple[list[Rows], int]]:
     """The rows of each block of a file, in the file's order, and the block's size in bytes.
 
@@ -149,25 +149,24 @@ def rows_in_threads(
     """
     row, left, failed = 0, iter(blocks), None
     waiting: deque[tuple[Texts, Future[tuple[list[Rows], list[Fault]]]]] = deque()
-    with Pool(threads) as pool:
-        while True:
-            try:
-                texts = next(left, None) if failed is None else None
-            except Exception as error:  # (what was read before it comes first)
-                texts, failed = None, error
-            if texts:
-                waiting.append((texts, pool.submit(_read_part, reader, texts, most)))
-            if texts and len(waiting) <= threads:
-                continue
-            if not waiting:
-                break
-            texts, answer = waiting.popleft()
-            found, kept = answer.result()
-            tell_kept(reader, texts, sum(rows.bad for rows in found), kept, row)
-            yield found, texts.block
-            if found:
-                found[-1].raise_fault(row)
-                row += found[-1].end
+    while True:
+        try:
+            texts = next(left, None) if failed is None else None
+        except Exception as error:  # (what was read before it comes first)
+            texts, failed = None, error
+        if texts:
+            waiting.append((texts, pool.submit(_read_part, reader, texts, most)))
+        if texts and len(waiting) <= threads:
+            continue
+        if not waiting:
+            break
+        texts, answer = waiting.popleft()
+        found, kept = answer.result()
+        tell_kept(reader, texts, sum(rows.bad for rows in found), kept, row)
+        yield found, texts.block
+        if found:
+            found[-1].raise_fault(row)
+            row += found[-1].end
     try:
         if failed:
             raise failed
