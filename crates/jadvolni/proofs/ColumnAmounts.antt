@@ -1,5 +1,5 @@
 -- Columns of amounts that are read at once.
-use Rattle.std.proofs.Common.{◌≡◌, ◌≢◌, ◌∙◌, Some, ap, sym, subst}
+use Rattle.std.proofs.Common.{◌≡◌, ◌≢◌, ◌∙◌, Bool, Option, None, Some, ap, false, is_some, not, refl, sym, subst, true}
 use Rattle.lexical_tables.specs.Amounts.{AreAmounts, AreAmountsIfFixed, HasAmounts, HasAmountsIfFixed, IsQuick}
 use Rattle.jadvolni.specs.Arrays.{array_as, array_in, number_type}
 use Rattle.jadvolni.specs.Fixed.{fixed_of}
@@ -25,3 +25,8 @@ quick_there column type is places has =
     let there : array_in column.arrays ≡ Some it.array = ap (array_as column.arrays) is ∙ it.there in
     subst AreAmountsIfFixed (as_fixed_points column.description it.array.type places)
     (subst (λ a. HasAmountsIfFixed (target_as column a)) there has)
+
+-- a column that has numbers has them in a type
+pub type_there : (found : Option NumberType) (none : Bool) → is_some found ≡ not none → none ≡ false → (type : NumberType) × (found ≡ Some type)
+type_there None none is some = absurd (cc)
+type_there (Some type) none is some = (type, refl)

@@ -76,12 +76,9 @@ impl ColumnFields<'_> {
             (target_of self.old) }
         ensures kept { result ≡ false → target_of self.new ≡ target_of self.old }
     {
-        if self.description.places == 0 {
+        if self.description.places == 0 || self.arrays.number_type().is_none() {
             return false;
         }
-        let Some(numbers) = self.arrays.number_type() else {
-            return false;
-        };
         let format = self.description.standard();
         let has_rule = self.description.has_zero_rule();
         if breaks_zero_rule(ahead, size, has_rule, format.point()) {
@@ -94,6 +91,9 @@ impl ColumnFields<'_> {
             format.places(),
             format.takes_fewer(),
         ) else {
+            return false;
+        };
+        let Some(numbers) = self.arrays.number_type() else {
             return false;
         };
         self.arrays.put_coded(numbers, row, is_negative, units)

@@ -1,5 +1,6 @@
 -- The codes of columns stay right while numbers are put.
 use Rattle.std.proofs.Common.{◌≡◌, ◌∙◌, ℕ, zero, suc, ◌<◌, ◌≤◌, Bool, false, true, not, List, [], ◌∷◌, length, get_or, Result, Option, Some, None, refl, ap, sym, subst, arith, ◌⊎◌, inl, inr}
+use Rattle.std.proofs.lemmas.Bool.{cases_eq, false≢true}
 use Rattle.std.proofs.lemmas.List.{length-map}
 use Rattle.std.specs.Prelude.{is_some, option_map, slice_index}
 use Rattle.lexical_util.specs.Format.{Format}
@@ -187,6 +188,20 @@ pub numbers_said : (dialect : Dialect) (code : ℕ) (target : Option TargetView)
     → (code ≡ 3) ⊎ (code ≡ 7) → has_numbers target ≡ true
 numbers_said dialect code target is (inl three) = is.column.numbers three
 numbers_said dialect code target is (inr seven) = amounts_have target (is.amounts seven).column
+
+-- so has one with the code of amounts or of a type
+pub numbers_coded : (dialect : Dialect) (code : ℕ) (target : Option TargetView) → IsCodeIn dialect code target → 7 ≤ code → has_numbers target ≡ true
+numbers_coded dialect code target is more = elim (cases_eq code 7) [
+  | inl seven ↦ amounts_have target (is.amounts seven).column
+  | inr other ↦ has_read code target (is.column.read (omega arith))
+]
+
+-- where blanks are passed, the code is that of a type
+pub typed_with_blanks : (dialect : Dialect) (code : ℕ) (target : Option TargetView) → IsCodeIn dialect code target → 7 ≤ code → dialect.allows_blanks ≡ true → 8 ≤ code
+typed_with_blanks dialect code target is more blanks = elim (cases_eq code 7) [
+  | inl seven ↦ absurd (let none = (is.amounts seven).no_blanks in false≢true (sym none ∙ blanks))
+  | inr other ↦ omega arith
+]
 
 -- amounts of a kind
 abbrev KindAmounts : Option Kind → Type 0

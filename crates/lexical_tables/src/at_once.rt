@@ -51,7 +51,8 @@ fn put_near_end<T: ParseInteger>(
 /// and returns whether it did. Otherwise it changes nothing, and says nothing about them.
 ///
 /// It reads them if they are up to twenty decimal digits alone or behind a minus, up to twelve in a type of at most 32 bits,
-/// up to sixteen where fewer than seventeen bytes follow, the type has the number, and the format has no punctuation.
+/// up to sixteen, or eight in a type below 32 bits, where fewer than seventeen bytes follow, the type has the number, and the
+/// format has no punctuation.
 ///
 /// It is for a [`TableColumn`](crate::TableColumn) of one's own. The format has to be valid, and the slice has to have that
 /// place.

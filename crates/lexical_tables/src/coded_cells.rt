@@ -1,4 +1,4 @@
-//! Cells that are read at once, by the codes of their columns.
+//! Cells that are read by the codes of their columns, at once or afterwards.
 
 ghost use Rattle.std.specs.Prelude.{◌≡◌, ◌+◌, ◌<◌, ◌≤◌, ◌^◌, ℕ, IsTrue, None, false, get_or, is_none, length, map, option_map, slice_index, take};
 ghost use Rattle.lexical_tables.specs.ByColumn.{AreUsable, answer_at, fault_in, kinds_of, put_read_at, wrong_cell};
@@ -6,7 +6,7 @@ ghost use Rattle.lexical_tables.specs.Codes.{AreCodes, AreStandard, IsCodeIn};
 
 use crate::answers::TableError;
 use crate::by_column::read_by_column;
-use crate::codes::{CODED, TEXTS, U8, code_of};
+use crate::codes::{AMOUNTS, CODED, TEXTS, code_of};
 use crate::content::Cell;
 use crate::dialect::Dialect;
 use crate::digit_cells::read_coded;
@@ -102,8 +102,8 @@ fn read_long_text<C: TableColumn>(
     read_text(&mut targets[column], row, cell, dialect)
 }
 
-// Reads the cell of a column with the code of a type that `read_coded_cell` has left, the first `size` bytes of a text, and
-// returns whether it is right: else what is wrong is reported.
+// Reads the cell of a column of amounts or with the code of a type that `read_coded_cell` has left, the first `size` bytes of a
+// text, and returns whether it is right: else what is wrong is reported.
 #[inline(always)]
 fn read_typed_cell<C: TableColumn>(
     targets: &mut [C],
@@ -120,7 +120,7 @@ fn read_typed_cell<C: TableColumn>(
     requires fine { wrong.old ≡ None }
     requires code { column < length targets.old
         → IsCodeIn dialect.now code (get_or (map C.target targets.old) column None) }
-    requires read { 8 ≤ code }
+    requires read { 7 ≤ code }
     requires usable { AreUsable (row + 1) (map C.target targets.old) }
     requires room { size + 17 ≤ length ahead.now }
     requires fits { start + size < 2 ^ 64 }
@@ -184,7 +184,7 @@ pub(crate) fn read_left_cell<C: TableColumn>(
         (record { start = start; text = take size ahead.now })) (map C.target targets.old) }
 {
     let code = code_of(codes, column);
-    if code >= U8 {
+    if code >= AMOUNTS {
         return read_typed_cell(
             targets, code, column, row, start, ahead, size, dialect, options, wrong,
         );

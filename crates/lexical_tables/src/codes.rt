@@ -30,7 +30,7 @@ pub const TEXTS: u8 = 2;
 /// The column's cells are numbers, of which `read_at_once` has most.
 pub const AT_ONCE: u8 = 3;
 
-/// The column's cells are numbers that `read_parsed` and `read_left` parse: `read_at_once` isn't asked for them.
+/// The column's cells are numbers that `read_parsed` and `read_left` parse: the loop over cells doesn't ask `read_at_once`.
 pub const PARSED: u8 = 5;
 
 // The column's cells are numbers which `TableColumn::read_parsed` parses: neither blanks nor a mark stand in them. A table's
@@ -104,9 +104,9 @@ pub(crate) const CODED: usize = 256;
 // Which loop reads the cells of a table, by the codes of its columns.
 #[derive(Copy, Clone)]
 pub(crate) enum Loop {
-    // Each column has the code of a type under the standard format: the loop asks for no other code.
+    // Each column has the code of a type without the rule on zeros: the loop asks for no other code.
     Standard,
-    // No column is read by a call.
+    // The loop calls for no cell: one that needs a call leaves it.
     WithoutCalls,
     // Texts, amounts or numbers of other formats are read by calls.
     WithCalls,

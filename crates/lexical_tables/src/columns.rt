@@ -21,7 +21,7 @@ pub enum Column<'a> {
     Integers(Target<'a>),
     /// Fixed-point numbers.
     FixedPoints(FixedTarget<'a>),
-    /// Texts, of which is kept where they stand.
+    /// Texts, kept as the places where they stand.
     Texts(TextTarget<'a>),
 }
 

@@ -13,7 +13,7 @@ pub enum Layout<'a> {
         /// How many cells each row has. An empty row has one, which is empty: so with 0 each row has one too many.
         columns: usize,
     },
-    /// Rows are lines, and each cell has as many bytes as its width says. A cell that isn't wholly there lacks, and
+    /// Rows are lines, and each cell has as many bytes as its width says. A cell that isn't wholly there is none, and
     /// bytes that are left behind the last one are a cell too many.
     ///
     /// With the widths 3 and 2 the row `007ab` has the cells `007` and `ab`, and `007a` has one.

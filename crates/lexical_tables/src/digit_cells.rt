@@ -1,4 +1,4 @@
-//! Cells of digits alone, whose numbers are put by their columns' codes.
+//! Cells that are read at once: digits in place, others by calls, as their columns' codes say.
 
 ghost use Rattle.std.specs.Prelude.{◌≡◌, ◌+◌, ◌-◌, ◌*◌, ◌<◌, ◌≤◌, ◌^◌, nat_le, ℕ, IfSome, IsTrue, None, false, length, take, drop, option_map, true};
 ghost use Rattle.lexical_util.specs.Format.{Format};
@@ -201,7 +201,7 @@ fn is_typed<const ALL_STANDARD: bool>(code: u8) -> bool
 // Reads a cell at once, the first `size` bytes of a text, where the column isn't read, or the cell
 // is digits alone, behind a minus or within quotes, and returns whether it did. With `HAS_CALLS` it
 // also reads texts, amounts and numbers of other formats, each by a call. With `ALL_STANDARD` the
-// code is that of a type under the standard format, and nothing else is asked for.
+// code is that of a type without the rule on zeros, and nothing else is asked for.
 #[inline(always)]
 pub(crate) fn read_coded<
     C: TableColumn,

@@ -31,7 +31,7 @@ pub struct FixedTarget<'a> {
 }
 
 /// Puts the fixed-point number of a cell that starts at a place into a row's place of a slice, in units of the last place, or
-/// returns the cell's fault. Most are sooner had by [`put_fixed_at_once`], which is best asked first.
+/// returns the cell's fault. Most are read faster by [`put_fixed_at_once`], which is best asked first.
 ///
 /// It is for a [`TableColumn`](crate::TableColumn) of one's own. The description has to be valid, and the slice has to have
 /// that place.

@@ -1,4 +1,4 @@
-//! Cells whose columns have texts, or numbers that are read at once.
+//! Cells of texts, and of numbers that are read at once or parsed.
 
 ghost use Rattle.std.specs.Prelude.{◌≡◌, ◌⊎◌, ◌&&◌, ◌+◌, ◌<◌, ◌≤◌, ◌^◌, ℕ, IsTrue, None, false, length, option_map, take, true};
 ghost use Rattle.std.specs.Str.{bytes_eq};

@@ -8,6 +8,10 @@ ghost use Rattle.lexical_tables.specs.Ends.{AreEnds};
 ghost use Rattle.lexical_tables.specs.Rows.{behind_piece};
 ghost use Rattle.lexical_tables.specs.Targets.{TargetView};
 
+mod open_rows;
+
+pub(crate) use self::open_rows::{LastRow, last_at_once};
+use self::open_rows::{OpenRow, Stopped, open_row, stopped_at};
 use crate::answers::{Table, TableError};
 use crate::cells::column_count;
 use crate::coded_cells::read_coded_cell;
@@ -21,70 +25,9 @@ use crate::row_end::ends_wrong;
 use crate::targets::TableColumn;
 use lexical_parse_integer::Options;
 
-// A row that is being read: its number, the place where it starts, how many of its columns were read, and what is left of the
-// text behind these.
-#[derive(Copy, Clone)]
-pub(crate) struct OpenRow<'a> {
-    pub index: usize,
-    pub start: usize,
-    pub column: usize,
-    pub left: Left<'a>,
-}
-
-// A row of which no cell was read.
-#[inline(always)]
-fn open_row<'a>(text: &[u8], index: usize, left: Left<'a>) -> OpenRow<'a>
-    requires within { length left.text.now ≤ length text.now }
-    ensures { result ≡ record {
-      index = index;
-      start = length text.now - length left.entry.text.now;
-      column = 0;
-      left = left.entry;
-    } }
-{
-    OpenRow {
-        index,
-        start: text.len() - left.text.len(),
-        column: 0,
-        left,
-    }
-}
-
-// How far rows were read at once: up to a row that isn't done, or to the end of one.
-#[derive(Copy, Clone)]
-struct Stopped<'a> {
-    row: OpenRow<'a>,
-    is_done: bool,
-}
-
-// Rows that were read at once, up to this one.
-#[inline(always)]
-fn stopped_at(
-    index: usize,
-    start: usize,
-    column: usize,
-    left: Left<'_>,
-    is_done: bool,
-) -> Stopped<'_>
-    ensures { result ≡ record {
-      row = record { index = index; start = start; column = column; left = left.entry };
-      is_done = is_done;
-    } }
-{
-    Stopped {
-        row: OpenRow {
-            index,
-            start,
-            column,
-            left,
-        },
-        is_done,
-    }
-}
-
 // Reads cells by the codes of their columns, while marks find the cells and each is read at once, up to the end of the row
-// `last`, or to that of the text, if nothing is wrong there. The first `coded` columns have codes. Without `HAS_CALLS` no call
-// stands in the loop, so that all it needs stays in registers. With `ALL_STANDARD` their codes say the types alone.
+// `last`, or to that of the text, if nothing is wrong there. The first `coded` columns have codes. Without `HAS_CALLS` the loop
+// calls `ends_near_end` alone, so that all it needs stays in registers. With `ALL_STANDARD` their codes say the types alone.
 #[inline(always)]
 fn read_cells_at_once<
     'a,
@@ -181,29 +124,6 @@ fn read_cells_at_once<
         }
     }
     stopped_at(index, start, column, left, false)
-}
-
-// The last of the rows that were read: its number, the place where it starts, and what is left of the text behind it.
-#[derive(Copy, Clone)]
-pub(crate) struct LastRow<'a> {
-    pub index: usize,
-    pub start: usize,
-    pub behind: Left<'a>,
-}
-
-// The number of the last row that may be read without a look at what stands behind a row: where empty rows are skipped, such
-// may stand there.
-#[inline(always)]
-pub(crate) fn last_at_once(index: usize, rows: usize, dialect: &Dialect<'_>) -> usize
-    requires more { index < rows }
-    ensures one { dialect.now.skips_empty_rows ≡ true → result ≡ index }
-    ensures behind { index ≤ result }
-    ensures few { result < rows }
-{
-    if dialect.skips_empty_rows {
-        return index;
-    }
-    rows - 1
 }
 
 // Puts what is read of rows into their places in the targets, from the first row of `from` on, where one pass of marks finds

@@ -17,8 +17,8 @@ use lexical_parse_integer::Options;
 // How many bytes have to follow digits that are read as words.
 const ROOM_BEHIND: usize = 17;
 
-// How many bytes a cell may have whose digits are all read at once.
-const SHORT: usize = 18;
+// How many bytes a cell may have whose digits are all read at once, also those around a point.
+const SHORT: usize = 13;
 
 // Whether a text is too near the end of what begins with it to be read as words.
 #[inline(always)]
@@ -175,8 +175,8 @@ fn read_padded_number<C: TableColumn>(
     read_number(target, code, column, row, cell, dialect, options, wrong)
 }
 
-// Reads a cell as `read_number` does, the first `size` bytes of a text, where it isn't digits that are read as words: between
-// blanks these may stand.
+// Reads a cell of a column of numbers, the first `size` bytes of a text, that wasn't read at once: between blanks digits may stand,
+// which are read by the column's code. Returns whether it is right: else what is wrong is reported.
 #[inline(always)]
 pub(crate) fn read_other_number<C: TableColumn>(
     target: &mut C,
@@ -193,7 +193,8 @@ pub(crate) fn read_other_number<C: TableColumn>(
     requires fine { wrong.old ≡ None }
     requires quotes { dialect.now.has_quotes ≡ false }
     requires code { IsCodeIn dialect.now code (C.target target.old) }
-    requires read { 8 ≤ code }
+    requires read { dialect.now.allows_blanks ≡ true → 8 ≤ code }
+    requires numbers { has_numbers (C.target target.old) ≡ true }
     requires usable { IsUsable (row + 1) (C.target target.old) }
     requires within { size ≤ length ahead.now }
     requires fits { start + size < 2 ^ 64 }

@@ -71,7 +71,7 @@ pub fn put_in_radix<T: ParseInteger>(values: &mut [T], row: usize, cell: &[u8], 
 }
 
 /// Puts the number of a cell that [`put_at_once`](crate::put_at_once) has left into a row's place of a slice, or returns the
-/// cell's fault, under the standard format, which is made here: a caller would make it for each cell. Of up to twelve bytes no
+/// cell's fault, under the standard format, which is made here: a caller would make it for each cell. Of up to twelve bytes few
 /// digits were left, so they aren't read as such again.
 ///
 /// It is for a [`TableColumn`](crate::TableColumn) of one's own. The slice has to have that place.

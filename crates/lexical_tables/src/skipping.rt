@@ -167,7 +167,7 @@ fn skip_called_rows<C: TableColumn, B: KeptRow, const HAS_QUOTES: bool>(
     )
 }
 
-// `read_columns_skipping`, once for tables with quotes and once for others: out of line, so that each has one loop.
+// `read_columns_skipping`, once for tables with quotes and once for others: out of line, so that each has its own loops.
 #[inline(never)]
 fn skip_rows<C: TableColumn, B: KeptRow, const HAS_QUOTES: bool>(
     text: &[u8],

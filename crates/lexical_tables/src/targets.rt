@@ -12,6 +12,8 @@ ghost use Rattle.lexical_tables.specs.Codes.{IsCode, IsReadAs, coded_type};
 ghost use Rattle.lexical_tables.specs.Readings.{Number, Text};
 ghost use Rattle.lexical_tables.specs.Targets.{TargetView, error_in, has_bits, has_numbers, keeps_text, put_text, put_value, slice_of, text_answer, text_fault, view_of_target, view_of_text, with_number, with_row_bit};
 
+mod target_cells;
+
 use crate::at_once::put_at_once;
 use crate::cell_text::CellText;
 use crate::codes::{NOT_READ, TEXTS, UNKNOWN};
@@ -193,7 +195,7 @@ pub trait TableColumn {
         false
     }
 
-    /// Does what `read` does, of a text on which `read_at_once` gave up: it needn't try that again.
+    /// Does what `read` does, of a text that `read_at_once` left or wasn't asked for: it needn't try that.
     ///
     /// A column that doesn't write it asks `read`.
     #[inline(always)]
@@ -372,49 +374,5 @@ impl TableColumn for Option<Target<'_>> {
             Some(target) => target.put_with_sign(row, is_negative, number),
             None => unreachable!(),
         }
-    }
-}
-
-impl Target<'_> {
-    // Puts 0 into a row's place, and clears the row's bit.
-    pub(crate) fn put_missing(&mut self, row: usize)
-        requires usable { IsUsable (row + 1) (Some (view_of_target self.old)) }
-        ensures { view_of_target self.new ≡ put_value row None (view_of_target self.old) }
-    {
-        self.numbers.put_zero(row);
-        put_presence(&mut self.present, row, false);
-    }
-
-    // Puts the number of a text that isn't read at once into a row's place, and sets the row's bit, or returns the text's fault.
-    #[inline(always)]
-    pub(crate) fn read_left(&mut self, row: usize, start: usize, text: &[u8]) -> Option<Error>
-        requires usable { IsUsable (row + 1) (Some (view_of_target self.old)) }
-        requires fits { start + length text.now < 2 ^ 64 }
-        ensures fault { result ≡ error_in (text_answer (view_of_target self.old)
-            (record { start = start; text = text.now })) }
-        ensures target { view_of_target self.new ≡ put_text row
-            (record { start = start; text = text.now }) (view_of_target self.old) }
-    {
-        if let Some(error) = self.put_parsed_number(row, start, text) {
-            return Some(error);
-        }
-        put_presence(&mut self.present, row, true);
-        None
-    }
-
-    // Puts the number of a text that isn't read at once into a row's place, or returns the text's fault.
-    #[inline(always)]
-    fn put_parsed_number(&mut self, row: usize, start: usize, text: &[u8]) -> Option<Error>
-        requires valid { IsNone (fault self.old.format) }
-        requires room { row < length (view_of_target self.old).values }
-        requires fits { start + length text.now < 2 ^ 64 }
-        ensures fault { result ≡ error_in (text_answer (view_of_target self.old)
-            (record { start = start; text = text.now })) }
-        ensures target { view_of_target self.new ≡ record (view_of_target self.old) {
-          values = with_number row (text_answer (view_of_target self.old)
-              (record { start = start; text = text.now })) (view_of_target self.old).values;
-        } }
-    {
-        self.numbers.put_parsed(row, start, text, &self.format)
     }
 }

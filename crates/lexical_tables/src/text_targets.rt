@@ -1,4 +1,4 @@
-//! Columns of texts, of which is kept where they stand.
+//! Columns of texts, kept as the places where they stand.
 
 ghost use Rattle.std.specs.Prelude.{◌≡◌, ◌+◌, ◌*◌, ◌<◌, ◌≤◌, IfSome, None, Some, length, option_map, set};
 ghost use Rattle.lexical_tables.specs.ByColumn.{IsUsable};
