@@ -137,7 +137,7 @@ ABOUT = ("The cells are of `i64`, with a comma between two of a row. A block fro
          "undecoded bytes for `read_table`, and `str` for pandas, whose amounts are floats. One "
          "pass over the bytes only counts line feeds and commas, 64 bytes at a time: no reader "
          "that works this way can take less. While other virtual machines use the processor, all "
-         "readers slow down, `from_chars` least: then the C call took 0.8 to 1.4.")
+         "readers slow down, `from_chars` least.")
 
 
 def by_csv(text: bytes) -> list[list[int]]:

@@ -34,7 +34,7 @@ int make_exceptions(PyObject *module, core_state *state)
         "row, column: in a table, the wrong cell. name: that of its column.\n"
         "line: the number of line feeds before the place. row_start, row_stop: where its row is.\n"
         "text: the first 40 bytes of the cell.\n\n"
-        "All count from 0; messages count lines, rows and columns from 1, and fields from 0.");
+        "All count from 0; messages count lines, rows, columns and fields from 1, and bytes from 0.");
     if (!state->parse_error)
         return -1;
     state->format_error = exception(

@@ -152,7 +152,7 @@ impl FormatFields {
 
     /// Whether all fields but the radix are those of the standard format.
     ///
-    /// The fields are asked in their order, as four words of eight bytes.
+    /// The fields are asked in their order, as two words of eight bytes and one of sixteen.
     #[inline(always)]
     #[tactic(auto, using(crate::proofs::ZeroBytes::no_bits))]
     pub fn is_standard_but_radix(&self) -> bool

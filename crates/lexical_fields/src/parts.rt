@@ -10,7 +10,7 @@ use lexical_parse_integer::{NumberFormat, Options};
 
 /// How many bytes of a part are whole fields: those up to its last separator, that one counted.
 ///
-/// It is 0 where the part has no separator. What stands behind is the begin of a field that the next part goes on with.
+/// It is 0 where the part has no separator. What stands behind is the beginning of a field that the next part continues.
 pub fn whole_fields(text: &[u8], separator: u8) -> usize
     ensures value { result ≡ whole_fields separator text.now }
     ensures within { result ≤ length text.now }

@@ -1,4 +1,4 @@
-//! The parsers in two halves, under a valid description: for this crate, and for calls from C.
+//! The parsers in two halves, under a valid description: for this crate, tables and calls from C.
 //!
 //! The first half reads most texts at once, and its `None` says nothing of a text. The second half
 //! has the answer for what the first one left. Up to fifteen digits around a point are read by one

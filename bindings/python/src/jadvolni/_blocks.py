@@ -27,7 +27,7 @@ _PIECE = 1 << 18
 _FRONT = 1 << 12
 # No block has more bytes than this: a file may make room for all that it is asked for.
 _MOST = 1 << 30
-# So many blocks are read before they are asked for.
+# This many blocks are read before they are asked for.
 _AHEAD = 3
 # A block of a file, or a piece of one.
 Block = Union[bytes, memoryview]
