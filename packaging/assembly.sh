@@ -35,7 +35,10 @@ chmod 755 "$work/kit/toolchain/bin/clang"
 packaging/align.sh crates/jadvolni/out/libjadvolni.a "$work/aligned.a"
 cmp "$work/aligned.a" "$archive"
 # Functions begin where they do in the archive.
-sed -i '/^\t\.section\t\.text\./{n;s/^\t\.p2align\t4/\t.p2align\t6/}' "$work/jadvolni.S"
+awk '/^\t\.section\t"?\.text\./ { begins = 1 }
+    begins && sub(/^\t\.p2align\t4/, "\t.p2align\t6") { begins = 0 }
+    { print }' "$work/jadvolni.S" > "$work/aligned.S"
+mv "$work/aligned.S" "$work/jadvolni.S"
 grep '^logic=proved' "$work/log" > "$verdict"
 
 # An object's instructions without padding, which can be encoded in several ways, and its constants.
