@@ -41,10 +41,8 @@ FLAGS = ["-std=c11", "-O3", "-Wall", "-Wextra", "-fPIC", "-fno-plt", "-shared",
 # before, would take the place of those that it was linked with. The loader refuses it on a
 # processor before x86-64-v2.
 LINK_FLAGS = ["-Wl,--exclude-libs,ALL", "-Wl,-z,x86-64-v2"]
-MODULES = ["__init__.py", "_arrays.py", "_arrow.py", "_blocks.py", "_faults.py", "_files.py",
-           "_fixed.py", "_format.py", "formats.py", "_header.py", "_lines.py", "_numpy.py",
-           "_pool.py", "_reader.py", "_rows.py", "_table.py", "_tables.py", "_texts.py",
-           "_threads.py", "_widths.py", "_core.pyi", "py.typed"]
+MODULES = sorted(path.name for kind in ("*.py", "*.pyi", "py.typed")
+                 for path in (HERE / "src" / NAME).glob(kind))
 LINK = re.compile(r"\[([^]]*)\]\((?:\.\./\.\./([^)#]*))?[^)]*\)")
 
 
