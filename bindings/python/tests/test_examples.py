@@ -443,6 +443,15 @@ class Inputs(Case):
             self.assertEqual(run.stderr, "this needs jadvolni, which isn't installed:"
                              " bindings/python/README.md says how\n")
 
+    def end_of_pipe(self, path, run):
+        """The end to write to, once a program has opened the other. One that ends fails the test.
+        """
+        while run.poll() is None:
+            with contextlib.suppress(OSError):
+                return os.open(path, os.O_WRONLY | os.O_NONBLOCK)
+            time.sleep(0.01)
+        self.fail(run.communicate())
+
     def test_an_interrupt(self):
         """A program that waits for input ends as the shell's own commands do."""
         path = self.folder / "pipe"
@@ -453,9 +462,10 @@ class Inputs(Case):
                 command = [sys.executable, str(EXAMPLES / name), str(path), *words]
                 with subprocess.Popen(command, stdout=subprocess.PIPE, stderr=subprocess.PIPE,
                                       preexec_fn=default) as run:
-                    with open(path, "wb"):  # (which waits until the program has opened it)
-                        run.send_signal(signal.SIGINT)
-                        answer = run.communicate(timeout=60)
+                    end = self.end_of_pipe(path, run)
+                    run.send_signal(signal.SIGINT)
+                    answer = run.communicate(timeout=60)
+                    os.close(end)
                 self.assertEqual((run.returncode, answer), (130, (b"", b"")))
 
     def test_a_closed_output(self):

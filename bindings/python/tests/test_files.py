@@ -333,6 +333,17 @@ class ReadAhead(unittest.TestCase):
                 self.assertEqual(numbers, self.rows(
                     text, lambda file, want, at: read(file, min(want, most), at), size))
 
+    def test_a_large_size_takes_no_room_of_its_own(self):
+        """A read makes room for what it asks for."""
+        read, asked = os.pread, []
+
+        def noted(file, want, at):
+            asked.append(want)
+            return read(file, want, at)
+
+        self.assertEqual(self.rows(b"1\n" * 300_000, noted, 1 << 30), [1] * 300_000)
+        self.assertLessEqual(max(asked), 600_000)
+
     def test_a_file_that_is_cut_or_grows(self):
         """What stands behind an end that was seen isn't read."""
         read, ends = os.pread, []

@@ -7,6 +7,8 @@ from typing import Any
 
 # Room for this many numbers isn't given back.
 _FEW = 512
+# An array grows by this many zeros at once, which stay in a processor's cache.
+_PIECE = 1 << 13
 
 
 def numpy_or_none() -> Any:
@@ -34,7 +36,9 @@ def grown(numpy: Any, values: Any, count: int, kept: int) -> Any:
     New bytes are 0, since those of bits are not all written.
     """
     if numpy is None:
-        values.extend(array(values.typecode, [0]) * (count - len(values)))
+        piece = array(values.typecode, [0]) * min(_PIECE, count - len(values))
+        while len(values) < count:
+            values.extend(piece[:count - len(values)])
         return values
     code = values.dtype.char
     more = zeros(numpy, code, count) if code == "B" else new_array(numpy, code, count)

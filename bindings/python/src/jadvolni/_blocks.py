@@ -107,10 +107,17 @@ def _size_left(file: Any) -> int:
 
 
 def _read_at(descriptor: int, size: int, place: int) -> bytes:
-    """The bytes of a file from a place on: `size` of them, or those up to its end."""
-    found = os.pread(descriptor, size, place)
-    while 0 < len(found) < size and (more := os.pread(descriptor, size - len(found),
-                                                      place + len(found))):
+    """The bytes of a file from a place on: `size` of them, or those up to its end.
+
+    A read makes room for all that it asks for, so it asks for little more than the file has.
+    """
+    found = b""
+    while len(found) < size:
+        start = place + len(found)
+        likely = max(os.fstat(descriptor).st_size - start, _PIECE)
+        more = os.pread(descriptor, min(size - len(found), likely), start)
+        if not more:
+            break
         found += more
     return found
 
