@@ -1,4 +1,5 @@
-//! Lines of answers, and their pieces, that are added behind others in a place of the caller that has room.
+//! Writes answer lines, and parts of them, into the caller's buffer `place`, behind what it holds already. The buffer
+//! has to have room.
 
 ghost use Rattle.std.specs.Prelude.{◌≡◌, ◌+◌, ◌≤◌, ◌∷◌, [], ◌++◌, codes, length, take};
 ghost use Rattle.lexical_util.specs.Ascii.{line_feed};
@@ -40,8 +41,8 @@ pub fn add_fault_line(fault: Error, place: &mut [u8], end: usize) -> usize
     add_byte(b'\n', place, last)
 }
 
-/// Adds what a token is, where it starts and stops, and a line feed, and answers where they end. No line of another
-/// answer asks for so much room.
+/// Adds what a token is, where it starts and stops, and a line feed, and answers where they end. No other answer line
+/// needs as much room.
 #[inline(always)]
 pub fn add_token_line(token: &Token<'_>, place: &mut [u8], end: usize) -> usize
     requires room { end + 92 ≤ length place.old }
@@ -89,7 +90,7 @@ fn add_fault(word: &[u8], fault: Error, place: &mut [u8], end: usize) -> usize
     add_place(fault.index(), place, behind)
 }
 
-// Adds the name of a fault. Each has an arm of its own: so few bytes, of a number that is known, go without a call.
+// Adds the name of a fault. Each has an arm of its own: copying a few bytes whose number is known needs no call.
 #[inline(always)]
 fn add_name(fault: Error, place: &mut [u8], end: usize) -> usize
     requires room { end + 22 ≤ length place.old }
@@ -159,7 +160,7 @@ fn add_value(value: &Number, place: &mut [u8], end: usize) -> usize
     add_decimal(value.magnitude(), place, end)
 }
 
-// Adds `ok` and a space, byte by byte: nobody asks then whether text and place overlap.
+// Adds `ok` and a space, byte by byte: then nothing tests whether text and buffer overlap.
 #[inline(always)]
 fn add_ok(place: &mut [u8], end: usize) -> usize
     requires room { end + 3 ≤ length place.old }

@@ -20,7 +20,7 @@ use std::marker::Model;
 /// How many bytes go out at once, at most.
 const SIZE: usize = 65536;
 
-/// Where fewer bytes are left, the batch goes out before a further line. The longest has at most 92.
+/// If fewer bytes are left, the batch is sent before another line is added. The longest line has at most 92 bytes.
 const LINE_ROOM: usize = 128;
 
 /// Bytes that wait to go out. A clause sees them as their list.
@@ -104,7 +104,7 @@ impl Batch {
         &self.held[..self.count]
     }
 
-    // Lets go of its bytes.
+    // Discards its bytes.
     fn clear(&mut self)
         ensures { self.new ≡ [] }
     {
@@ -139,8 +139,8 @@ fn write_batch<W: Write>(batch: &Batch, out: &mut W) -> Result<(), RunError>
     write_out(batch.bytes(), out)
 }
 
-/// Writes what the batch holds, and empties it. After a refused write it holds what it held, and a
-/// front of that was written.
+/// Writes what the batch holds, and empties it. After a refused write it still holds all of its bytes, of which only
+/// some first ones, or none, were written.
 #[inline(never)]
 pub fn send<W: Write>(batch: &mut Batch, out: &mut W) -> Result<(), RunError>
     ensures ok { OnOk result (Appends (W.contents out.old) (W.contents out.new) batch.old) }
@@ -154,7 +154,7 @@ pub fn send<W: Write>(batch: &mut Batch, out: &mut W) -> Result<(), RunError>
     Ok(())
 }
 
-/// Sends the batch where not every line fits.
+/// Sends the batch unless it has room for any line.
 #[inline(always)]
 pub fn make_room<W: Write>(batch: &mut Batch, out: &mut W) -> Result<(), RunError>
     ensures ok { OnOk result

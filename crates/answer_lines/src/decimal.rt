@@ -1,4 +1,5 @@
-//! Numbers as text, added behind other text in a place of the caller that has room.
+//! Writes numbers as text into the caller's buffer `place`, behind what it holds already. The
+//! buffer has to have room.
 
 ghost use Rattle.std.specs.Prelude.{◌≡◌, ◌+◌, ◌/◌, ◌%◌, ◌^◌, ◌<◌, ◌≤◌, ◌∷◌, [], ◌++◌, length, take};
 ghost use Rattle.answer_lines.specs.Decimal.{decimal_text, eight_digits, four_digits, sixteen_digits, two_digits};
@@ -52,7 +53,7 @@ fn add_wide(n: u128, place: &mut [u8], end: usize) -> usize
     add_sixteen((n - front * GROUP) as u64, place, start)
 }
 
-// Adds the digits of what is in front of those sixteen.
+// Adds the digits in front of those sixteen.
 #[inline(always)]
 fn add_front(n: u128, place: &mut [u8], end: usize) -> usize
     requires few { n < 10 ^ 23 }
@@ -199,7 +200,7 @@ fn add_two(n: u8, place: &mut [u8], end: usize) -> usize
     add_byte(ones, place, start)
 }
 
-// The two digits of a number, out of a table: one word is moved, and nothing divided.
+// The two digits of a number, looked up in a table: they are moved as one word, without a division.
 #[inline(always)]
 #[tactic(auto, using(crate::proofs::DigitPairs::tens_by_table, crate::proofs::DigitPairs::ones_by_table))]
 fn two_digits(n: u8) -> (u8, u8)

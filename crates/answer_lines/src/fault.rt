@@ -3,10 +3,10 @@
 ghost use Rattle.std.specs.Prelude.{◌≡◌};
 ghost use Rattle.answer_lines.specs.Fault.{message_of};
 
-/// Why a run did not end well. Each is answered only with its cause in that call.
+/// Why a run did not end well. Each is returned only if the call met its cause.
 #[derive(Debug, PartialEq, Eq, Drop)]
 pub enum RunError {
-    /// A read was refused, or the reads came to no end.
+    /// A read was refused, or 4,294,967,296 reads didn't reach the end of the input.
     Read,
     /// A write or a flush was refused.
     Write,

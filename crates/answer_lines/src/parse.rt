@@ -10,7 +10,7 @@ use crate::number::Number;
 use lexical_parse_integer::{FromLexicalWithOptions, NumberFormat, Options, Result};
 use lexical_util::num::Integer;
 
-/// The value as a number, by way of the widest type of its sign.
+/// The value as a number, converted through the widest type, signed or unsigned as its own is.
 #[inline(always)]
 pub fn number_of<T: Integer + Into<W>, W: Into<Number>>(value: T) -> Number
     requires widens { Widens T.number T.converts W.converts }

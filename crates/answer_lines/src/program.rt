@@ -14,14 +14,14 @@ use crate::settings::Settings;
 use std::alloc::Global;
 use std::io::{ErrorKind, Read, Write};
 
-/// After this many reads without an end of the input, the input counts as refused.
+/// If this many reads don't reach the end of the input, the input counts as refused.
 const MOST_READS: u64 = 4_294_967_296;
 
 /// How many bytes one read asks for.
 const CHUNK: usize = 65536;
 
-/// Writes the answer lines of the input. Its one fault is `Write`, after which a front of them was
-/// written. It allocates nothing.
+/// Writes the answer lines of the input. Its one fault is `Write`: then only some of the first
+/// bytes of these lines, or none, were written. It allocates nothing.
 pub fn run<W: Write>(input: &[u8], out: &mut W) -> Result<(), RunError>
     ensures ok { OnOk result (Appends (W.contents out.old) (W.contents out.new)
         (output input.now)) }
@@ -110,11 +110,11 @@ pub fn run_with<R: Read, W: Write, B: Buffer>(
 
 /// Reads to the end, writes the answer lines of all that was read, and flushes.
 ///
-/// `Read` is a refused read, or 4,294,967,296 reads that don't come to the end; an interrupted
-/// read counts, and is tried again. `Memory` is a refused growth of the input buffer. After both
-/// nothing was written, and the reader has lost what was read. `Write` is a refused write or
-/// flush; one that is interrupted, and a write that takes no byte, count as refused. After it the
-/// reader is at its end, and a front of the answer lines was written: it isn't said how much.
+/// `Read` is a refused read, or 4,294,967,296 reads that don't reach the end of the input; an
+/// interrupted read counts, and is tried again. `Memory` is a refused growth of the input buffer.
+/// After either of these nothing was written, and what was read is lost. `Write` is a refused write
+/// or flush; one that is interrupted, and a write that takes no byte, count as refused. After it
+/// the reader is at its end, and an unknown number of the answer lines' first bytes were written.
 pub fn run_from<R: Read, W: Write>(
     alloc: Global,
     input: &mut R,

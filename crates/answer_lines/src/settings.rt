@@ -15,9 +15,9 @@ use std::marker::Model;
 #[derive(Drop)]
 pub struct Settings {
     format: NumberFormatBuilder,
-    // What that builds, so that a line which changes nothing builds nothing.
+    // The format that `format` builds, kept so that it is built only when a line changes it.
     built: NumberFormat,
-    // Only where no line has set anything since the standard ones: then the parser needs no look at the format.
+    // True only if no line has changed the standard settings: then the parser needn't look at the format.
     is_standard: bool,
     options: Options,
 }

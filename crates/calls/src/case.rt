@@ -1,4 +1,4 @@
-//! A case: a call, what it is told, and its text.
+//! A case: a call, its arguments, and its text.
 
 use crate::format::format_of;
 use lexical_fields::{field_length, read_column};
@@ -6,12 +6,12 @@ use lexical_parse_integer::format::STANDARD;
 use lexical_parse_integer::{FromLexical, NumberFormat, options};
 use lexical_tables::{Dialect, Layout};
 
-/// How many bytes say a format, and how many numbers how a text is read.
+/// How many bytes describe a format; below it, how many numbers describe how a text is read.
 const FORMAT_SIZE: usize = 18;
 
 const HOW_SIZE: usize = 12;
 
-/// What isn't read of three columns: nothing, the middle one and missing numbers of the last, or all.
+/// Which of three columns aren't read: none; the middle one, where numbers of the last may be missing; or all.
 #[derive(Debug, Clone, Copy, PartialEq, Eq)]
 pub enum Lacks {
     Nothing,
@@ -30,7 +30,7 @@ impl Lacks {
     }
 }
 
-/// How a text is read that has many numbers.
+/// How a text of many numbers is read.
 #[derive(Clone, Copy)]
 pub struct How {
     /// The byte between two cells or fields.
@@ -115,14 +115,14 @@ fn word(text: &[u8]) -> Option<(&[u8], &[u8])> {
     Some((text.get(..size)?, text.get(size.checked_add(1)?..)?))
 }
 
-// The format that a word says by its bytes, with commas between them.
+// The format that a word lists as bytes, with commas between them.
 fn format_in(word: &[u8]) -> Option<NumberFormat> {
     let mut bytes = [0_u8; FORMAT_SIZE];
     let column = read_column(word, b',', &STANDARD, &options::STANDARD, &mut bytes).ok()?;
     (column.count == FORMAT_SIZE).then_some(format_of(&bytes))
 }
 
-// How a text is read, as a word says by its numbers, with commas between them.
+// How a text is read, which a word lists as numbers, with commas between them.
 fn how_in(word: &[u8]) -> Option<How> {
     let mut numbers = [0_usize; HOW_SIZE];
     let column = read_column(word, b',', &STANDARD, &options::STANDARD, &mut numbers).ok()?;

@@ -15,7 +15,7 @@ use lexical_parse_integer::parse::ParseInteger;
 use lexical_parse_integer::{FromLexicalWithOptions, Options};
 use std::alloc::{AllocError, Global};
 
-// A text as often as it is read.
+// Copies of a text, one for each time that it is read.
 fn copies(alloc: Global, text: &[u8]) -> Result<Vec<u8>, AllocError> {
     let mut copies = Vec::new(alloc);
     for _ in 0..MANY {
@@ -26,7 +26,7 @@ fn copies(alloc: Global, text: &[u8]) -> Result<Vec<u8>, AllocError> {
     Ok(copies)
 }
 
-// What a call on one number is answered.
+// What a call on one number returns.
 fn of_one<T: FromLexicalWithOptions<Options = Options> + ParseInteger + Number + Drop>(
     case: &Case<'_>,
     texts: &[u8],
@@ -60,7 +60,7 @@ fn of_one<T: FromLexicalWithOptions<Options = Options> + ParseInteger + Number +
     }
 }
 
-// What a call is answered that puts numbers of a type into a slice.
+// What a call returns that puts numbers of a type into a slice.
 fn of_column<T: ParseInteger + Number + Drop>(
     alloc: Global,
     case: &Case<'_>,
@@ -87,7 +87,7 @@ fn of_column<T: ParseInteger + Number + Drop>(
     Ok(counted::<T, ReadColumn<T>>(&mut call, texts, size))
 }
 
-// What a call on a table is answered.
+// What a call on a table returns.
 fn of_table(alloc: Global, case: &Case<'_>, texts: &[u8]) -> Result<Option<Seen>, AllocError> {
     let how = case.how;
     let place = Place {
@@ -115,7 +115,7 @@ fn of_table(alloc: Global, case: &Case<'_>, texts: &[u8]) -> Result<Option<Seen>
     Ok(counted::<i64, ThreeColumns>(&mut ThreeColumns { place }, texts, size))
 }
 
-// What `TableColumn::read` is answered.
+// What `TableColumn::read` returns.
 fn of_cell(alloc: Global, case: &Case<'_>, texts: &[u8]) -> Result<Option<Seen>, AllocError> {
     let Some(format) = ValidFormat::new(case.format) else {
         return Ok(None);
@@ -128,7 +128,7 @@ fn of_cell(alloc: Global, case: &Case<'_>, texts: &[u8]) -> Result<Option<Seen>,
     Ok(counted::<i64, ReadCell>(&mut call, texts, case.text.len()))
 }
 
-// What a call on a source is answered.
+// What a call on a source returns.
 fn of_source(case: &Case<'_>, texts: &[u8]) -> Option<Seen> {
     let (format, size) = (case.format, case.text.len());
     match case.call {
@@ -145,7 +145,7 @@ fn of_source(case: &Case<'_>, texts: &[u8]) -> Option<Seen> {
     }
 }
 
-// What a case of a type is answered.
+// What a case whose numbers are of a type returns.
 fn of_type<T: FromLexicalWithOptions<Options = Options> + ParseInteger + Number + Drop>(
     alloc: Global,
     case: &Case<'_>,
@@ -159,8 +159,8 @@ fn of_type<T: FromLexicalWithOptions<Options = Options> + ParseInteger + Number 
     }
 }
 
-/// What a case is answered, where there is such a call, and a valid format where the call asks for one. A source's cases have
-/// the type `-`.
+/// What a case returns. `None` if there is no such call, or the call needs a valid format and has none. A source's
+/// cases have the type `-`.
 pub fn answered(alloc: Global, case: &Case<'_>) -> Result<Option<Seen>, AllocError> {
     let copies = copies(alloc, case.text)?;
     let texts = copies.as_slice();

@@ -1,4 +1,4 @@
-//! A format from the bytes that say its fields.
+//! A format from the bytes of its fields.
 
 use lexical_parse_integer::{NumberFormat, NumberFormatBuilder};
 

@@ -1,5 +1,5 @@
-//! Makes the calls that bench/calls has counted, so often that callgrind can tell what each takes: standard input has
-//! the cases, and standard output what each was answered.
+//! Makes the calls that bench/calls counts, several times each, so that callgrind can count what one takes. Standard
+//! input has the cases, and standard output gets what each returns.
 //!
 //! Nothing here is for users.
 #![tactic(auto)]
@@ -55,7 +55,7 @@ fn answer_all<W: Write>(alloc: Global, input: &[u8], out: &mut W) -> Result<()> 
     writeln!(out, "no case from {} bytes before the end on", rest.len())
 }
 
-// What a case is answered, where there is memory and such a call.
+// What a case returns, if there is memory and such a call.
 fn answer_of(alloc: Global, case: &Case<'_>) -> Option<Seen> {
     match answered(alloc, case) {
         Ok(seen) => seen,
@@ -63,7 +63,7 @@ fn answer_of(alloc: Global, case: &Case<'_>) -> Option<Seen> {
     }
 }
 
-// Writes what a case was answered: numbers, places and faults, each added up.
+// Writes what a case returned: the sums of its numbers, of its places and of its faults.
 fn tell<W: Write>(answer: Option<Seen>, out: &mut W) -> Result<()> {
     match answer {
         Some(seen) => writeln!(out, "{} {} {}", seen.numbers, seen.places, seen.faults),

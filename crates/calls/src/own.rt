@@ -1,4 +1,5 @@
-//! A column of one's own, which does no more than a table has to be told.
+//! A user's own implementation of `TableColumn`, which writes only the functions that a table
+//! requires.
 
 ghost use Rattle.std.specs.Prelude.{option_map};
 ghost use Rattle.lexical_tables.specs.Targets.{view_of_target};

@@ -1,10 +1,10 @@
-//! What calls were answered, added up.
+//! Sums of what calls return.
 
 use crate::number::Number;
 use lexical_parse_integer::{Error, Result as Answer};
 use std::io::{Result, Write};
 
-/// The sums of what some calls were answered: of the low 64 bits of numbers, of places and counts, and of faults, each by
+/// The sums of what some calls returned: of the low 64 bits of numbers, of places and counts, and of faults, each as
 /// the number that it has in C.
 #[derive(Debug, Clone, Copy, PartialEq, Eq)]
 pub struct Seen {

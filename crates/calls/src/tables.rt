@@ -161,14 +161,15 @@ fn read_two<'a>(
     Ok(Some(read(text, how, rows, &mut targets)))
 }
 
-// What is answered of a table of which no column is read: those behind the last target aren't.
+// The answer to a table of which no column is read: there are no targets, and columns behind the last target aren't
+// read.
 #[inline(always)]
 fn read_none(alloc: Global, text: &[u8], how: &How) -> Result<Table, TableError> {
     let mut targets: Vec<Option<Target<'_>>> = Vec::new(alloc);
     read(text, how, how.rows, &mut targets)
 }
 
-// What is answered of a table with a column of one's own.
+// What is answered of a table with a user's own column.
 #[inline(always)]
 fn read_own<'a>(
     alloc: Global,
@@ -279,7 +280,7 @@ impl Call<i64> for NoneOfThree {
     }
 }
 
-/// `read_columns` with a column of one's own.
+/// `read_columns` with a user's own column.
 #[derive(Drop)]
 pub struct OwnColumn {
     pub place: Place,

@@ -1,4 +1,5 @@
-//! A call in turns, by which callgrind tells what it takes.
+//! A call made several times in a row, so that callgrind can count what one takes. Each time is a
+//! turn here.
 
 use crate::seen::Seen;
 
@@ -10,7 +11,7 @@ pub const MANY: usize = 12;
 
 /// A call whose numbers are of a type.
 pub trait Call<T> {
-    /// Makes the call on a text, and adds what it was answered.
+    /// Makes the call on a text, and adds what it returns.
     fn once(&mut self, text: &[u8], seen: &mut Seen);
 }
 
@@ -38,7 +39,8 @@ pub fn take_turns<T, C: Call<T>>(call: &mut C, texts: &[u8], size: usize, turns:
     seen
 }
 
-/// What a call is answered once, and then by few and by many turns: each has to answer alike.
+/// What a call returns once. Then it is made for few and for many turns, each of which has to
+/// return the same.
 #[inline(never)]
 pub fn counted<T, C: Call<T>>(call: &mut C, texts: &[u8], size: usize) -> Option<Seen> {
     let once = take_turns(call, texts, size, 1);

@@ -1,4 +1,4 @@
-//! Formats that were asked once whether they are valid.
+//! Formats that were checked once for validity.
 
 ghost use Rattle.std.specs.Prelude.{◌≡◌, None};
 ghost use Rattle.lexical_util.specs.Validity.{fault};
@@ -6,7 +6,8 @@ ghost use Rattle.lexical_util.specs.Validity.{fault};
 use lexical_parse_integer::NumberFormat;
 use std::marker::Model;
 
-/// A valid format, made before the calls that are counted: who parses many texts under one format asks it once.
+/// A valid format, made before the calls that are counted: a caller that parses many texts under one format checks it
+/// once.
 #[derive(Drop)]
 pub struct ValidFormat {
     format: NumberFormat,

@@ -27,7 +27,7 @@ outcome_of (Ok value) =
 outcome_of (Err fault) =
     record { output = []; error = codes "jad: " ++ fault_text fault ++ line_feed ∷ []; status = 1 }
 
--- the whole text is read; where nothing is asked, standard error tells how to
+-- the whole text is read; if there is no question, standard error shows how to ask one
 abbrev pub outcome_asked : Option Question → Outcome
 outcome_asked None = record { output = []; error = usage ++ line_feed ∷ []; status = 2 }
 outcome_asked (Some asked) =

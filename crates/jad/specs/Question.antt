@@ -18,13 +18,13 @@ pub record Question : Type 0 where
 abbrev pub format_if_valid : Format → Option Format
 format_if_valid format = if is_some (fault format) then None else Some format
 
--- the standard format in the radix that a text tells
+-- the standard format in the radix that a text names
 abbrev pub format_by_radix : List ℕ → Option Format
 format_by_radix text =
     option_and_then (λ radix. format_if_valid (record standard { mantissa_radix = radix }))
     (radix_in text)
 
--- the format that an option and its value tell
+-- the format that an option and its value name
 abbrev pub format_told : List ℕ → List ℕ → Option Format
 format_told option value =
     if bytes_eq option (codes "--format") then format_named value
@@ -36,7 +36,7 @@ question_about name format text =
     option_and_then (λ type. option_map (λ format.
     record { type = type; format = format; text = text }) format) (type_named name)
 
--- two minuses before the text say nothing
+-- `--` before the text only marks that the text follows
 abbrev pub if_dashes : List ℕ → Option Question → Option Question
 if_dashes dashes asked = if bytes_eq dashes (codes "--") then asked else None
 

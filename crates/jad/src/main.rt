@@ -12,7 +12,7 @@ use std::env::Env;
 use std::io;
 use std::process::ExitCode;
 
-/// Writes what the arguments ask for. At a fault of the system, as a refused write, standard error has it, and the
+/// Writes what the arguments ask for. A fault of the system, such as a refused write, goes to standard error, and the
 /// status is 2.
 fn main(rt: HostRuntime) -> ExitCode {
     match answer(&rt, rt.alloc()) {

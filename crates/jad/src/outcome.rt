@@ -54,7 +54,7 @@ fn outcome_of(alloc: Global, answer: Parse<Number>) -> Result<Outcome, AllocErro
     }
 }
 
-// The whole text is read; where nothing is asked, standard error says how to.
+// Reads the whole text. If the arguments aren't a question, standard error shows how to ask one.
 fn outcome_asked(alloc: Global, asked: Option<Question<'_>>) -> Result<Outcome, AllocError>
     ensures { IfOk result (λ told. told ≡ outcome_asked asked.entry) }
 {
@@ -81,8 +81,8 @@ fn asks_for_help(arguments: &[&[u8]]) -> bool
     }
 }
 
-/// What a run comes to for its arguments, without the program's name. No contract says more than this of the program:
-/// `main` writes the two texts, and answers the status.
+/// The outcome of a run with these arguments, which don't include the program's name. No contract says more than this
+/// about the program: `main` writes the two texts, and returns the status.
 pub fn outcome_for(alloc: Global, arguments: &[&[u8]]) -> Result<Outcome, AllocError>
     ensures { IfOk result (λ told. told
         ≡ outcome_for (map (λ argument. argument.now) arguments.now)) }

@@ -25,7 +25,7 @@ impl<'a> Model for Question<'a> {
     ghost view = { λ q. record { type = q.name; format = q.format; text = q.text.now } };
 }
 
-// The standard format in the radix that a text says.
+// The standard format in the radix that a text names.
 fn format_by_radix(text: &[u8]) -> Option<NumberFormat>
     ensures { result ≡ format_by_radix text.now }
 {
@@ -37,7 +37,7 @@ fn format_by_radix(text: &[u8]) -> Option<NumberFormat>
     }
 }
 
-// The format that an option and its value say.
+// The format that an option and its value name.
 fn format_told(option: &[u8], value: &[u8]) -> Option<NumberFormat>
     ensures { result ≡ format_told option.now value.now }
 {
@@ -63,7 +63,7 @@ fn question_about<'a>(
     Some(Question { name, format, text })
 }
 
-// The question where two minuses, which say nothing, come before the text.
+// The question where `--`, which only marks that the text follows, comes before the text.
 fn question_behind<'a>(
     dashes: &[u8],
     name: &[u8],

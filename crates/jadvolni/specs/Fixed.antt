@@ -21,7 +21,7 @@ use Rattle.jadvolni.specs.declared.format.FormatFields.{FormatFields}
 abbrev pub fixed_known : FixedFields → Bool
 fixed_known fields = are_known fields.integer && are_zeros fields.reserved
 
--- the format of the integer part: where its radix is 0, the fields are set beside radix 10 and a required digit
+-- the format of the integer part: a radix of 0 stands for radix 10 and a required digit
 abbrev pub integer_of : FormatFields → Format
 integer_of fields =
     if fields.mantissa_radix == 0

@@ -9,11 +9,11 @@ use Rattle.jadvolni.specs.declared.format.FormatFields.{FormatFields}
 abbrev pub flag : ℕ → Bool
 flag byte = not (byte == 0)
 
--- whether a bit, by what it is worth, is set in a byte
+-- whether the bit of this value is set in a byte
 abbrev pub has_bit : ℕ → ℕ → Bool
 has_bit bit byte = not (bit_and byte bit == 0)
 
--- a byte of punctuation: 0 is none, or the byte 0 itself where that is what it is
+-- a byte of punctuation: 0 is none, or the byte 0 itself if that is punctuation
 abbrev pub punctuation : ℕ → Bool → Option ℕ
 punctuation byte is_nul = if byte == 0 then (if is_nul then Some 0 else None) else Some byte
 

@@ -18,7 +18,7 @@ use Rattle.jadvolni.specs.declared.format.FormatFields.{FormatFields}
 use Rattle.jadvolni.specs.declared.literals.SuffixFields.{SuffixFields}
 use Rattle.jadvolni.specs.declared.outcome.Outcome.{Outcome}
 
--- A status, a place, the number that the caller has afterwards, and where the caller has it that a suffix begins.
+-- A status, a place, and what the caller has afterwards: the number, and where the suffix begins.
 pub record LiteralEffect : Type 0 where
   pub status : ℕ
   pub place : ℕ
@@ -81,7 +81,7 @@ kind_coded code = find (λ kind. code == code_of kind) kinds
 abbrev pub is_suffix_known : SuffixFields → Bool
 is_suffix_known entry = is_some (kind_coded entry.code) && (entry.reserved == 0)
 
--- each entry of a table does
+-- each entry of a table is known
 abbrev pub are_suffixes_known : List SuffixFields → Bool
 are_suffixes_known table = list_all is_suffix_known table
 
@@ -110,8 +110,8 @@ abbrev pub place_of_literal : LiteralError → ℕ
 place_of_literal (Number error) = fault_place (place_of error)
 place_of_literal (UnknownSuffix place) = place
 
--- A status, a place, the number that the caller has afterwards, and where the caller has it that a suffix begins and
--- which entry of the table has it.
+-- A status, a place, and what the caller has afterwards: the number, where the suffix begins, and the index of the
+-- table's entry with that suffix.
 pub record TypedEffect : Type 0 where
   pub status : ℕ
   pub place : ℕ

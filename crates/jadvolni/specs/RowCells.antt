@@ -27,7 +27,7 @@ cells_found (Some dialect) first text cells =
       cells = put_in_front (drop first (map place_of_cell all)) cells;
     }
 
--- the same, of a table as C writes it; how many cells a row has to have doesn't count
+-- the same, of a table as C writes it; how many cells a row has to have doesn't matter
 abbrev pub cells_call : TableFields → ℕ → List ℕ → List CellPlace → CellsEffect
 cells_call table first text cells =
     cells_found (dialect_of table (length table.widths.now)) first text cells

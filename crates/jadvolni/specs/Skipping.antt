@@ -28,7 +28,7 @@ abbrev pub row_found : Option Dialect → ℕ → List ℕ → RowOutcome
 row_found None row text = record { status = invalid_table; start = 0; stop = 0 }
 row_found (Some dialect) row text = found (place_of dialect text row)
 
--- the same, of a table as C writes it; how many cells a row has doesn't count
+-- the same, of a table as C writes it; how many cells a row has to have doesn't matter
 abbrev pub row_call : TableFields → ℕ → List ℕ → RowOutcome
 row_call table row text = row_found (dialect_of table (length table.widths.now)) row text
 

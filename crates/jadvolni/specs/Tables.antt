@@ -115,8 +115,8 @@ number_status description =
     else if description.places == 0 then format_status description.integer
     else fixed_format_status description
 
--- What is wrong with a target for `rows` rows. A column without a target has to have the radix 0 if
--- rows are asked for. What numbers look like doesn't count for texts.
+-- What is wrong with a target for `rows` rows. A column without a target has to have the radix 0 if rows are asked for.
+-- For texts the description of numbers doesn't matter.
 abbrev pub target_status : ℕ → FixedFields → Option TargetView → ℕ
 target_status rows description None =
     if rows == 0 || description.integer.mantissa_radix == 0 then 0 else invalid_table

@@ -32,8 +32,8 @@ pub enum NumberType {
     I64,
 }
 
-/// The arrays of a column. One of them has room, and is where the column's numbers go, and says their type: of several the
-/// first is taken. Where none has, there are no numbers.
+/// The arrays of a column, one for each type. The first one that has room takes the column's numbers, and so sets their
+/// type. If none has room, the column has no numbers.
 #[repr(C)]
 #[derive(Drop)]
 pub struct ArrayFields<'a> {
@@ -245,8 +245,8 @@ impl ArrayFields<'_> {
         }
     }
 
-    // Puts the number of a text's first `size` bytes into a row's place, where there is an array and the number is had at
-    // once under the standard format. Out of line, since codes read most numbers.
+    // Puts the number of a text's first `size` bytes into a row's place, if there is an array and the fast path reads
+    // the number under the standard format. Out of line, since most numbers are read by codes.
     #[inline(never)]
     pub(crate) fn put_at_once(&mut self, row: usize, ahead: &[u8], size: usize) -> bool
         requires room { IfSome (array_in self.old) (λ array. row < length array.numbers) }
@@ -272,8 +272,8 @@ impl ArrayFields<'_> {
         }
     }
 
-    // Puts a number with its sign into a row's place, where the array's type, which a code says, has it, and returns whether it
-    // did.
+    // Puts a number with its sign into a row's place, if the array's type, which a code names, has that number, and
+    // returns whether it did.
     #[inline(always)]
     pub(crate) fn put_coded(
         &mut self,

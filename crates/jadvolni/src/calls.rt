@@ -64,7 +64,8 @@ fn complete_any<T: FromLexical, S: Slot<T>>(text: &[u8], value: &mut S) -> Outco
     store(complete_standard_by_length::<T>(text), text.len(), value)
 }
 
-/// The whole text, under the standard format. A short one is read in place, so that an exported call keeps nothing.
+/// The whole text, under the standard format. A short one is read in place, so that an exported call has nothing to
+/// save.
 #[inline(always)]
 pub fn complete<T: FromLexical, S: Slot<T>>(text: &[u8], value: &mut S) -> Outcome
     ensures { effect result (S.number value.new)
@@ -182,7 +183,7 @@ fn complete_in_radix<T: FromLexicalWithOptions<Options = Options>, S: Slot<T>>(
 }
 
 /// The whole text, under a format that may be invalid. A short one is read in place where the format is decimal and has
-/// no punctuation: of its fields those alone are looked at that say so, and no format is made.
+/// no punctuation: only the fields that decide this are looked at, and no format is built field by field.
 #[inline(always)]
 pub fn complete_under<T: FromLexicalWithOptions<Options = Options>, S: Slot<T>>(
     text: &[u8],

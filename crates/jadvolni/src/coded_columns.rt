@@ -1,4 +1,4 @@
-//! The codes of columns, and numbers that are put by these.
+//! The codes of columns, and how numbers are stored by them.
 
 ghost use Rattle.std.specs.Prelude.{◌≡◌, ◌+◌, ◌<◌, ◌≤◌, ◌^◌, IsTrue, Some, false, is_some, option_map, true};
 ghost use Rattle.lexical_digits.specs.Value.{with_sign};

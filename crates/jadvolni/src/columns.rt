@@ -54,10 +54,11 @@ pub fn column_under<T: ParseInteger>(
     }
 }
 
-/// Where the field starts that a text ends in: behind its last separator, or at 0. What stands before is whole fields.
+/// Where the field that a text ends in starts: behind the text's last separator, or at 0. All that stands before is
+/// whole fields.
 ///
-/// It returns where the field of a fault starts, if the text ends at the fault's place; and how much of a block may be
-/// read as a column, if more follows.
+/// For a text up to a fault's place, this is where the field at fault starts. For a block that more follows, it is how
+/// many bytes may be read as a column.
 #[unsafe(no_mangle)]
 pub extern "C" fn jadvolni_field_start(text: &[u8], separator: u8) -> usize
     ensures { result ≡ whole_fields separator text.now }

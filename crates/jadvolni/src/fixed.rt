@@ -29,7 +29,7 @@ pub struct FixedFields {
     pub reserved: [u8; 13],
 }
 
-// Makes the fields of the integer part those of its format: where the radix is 0, it is 10, and a digit is required.
+// Makes the fields of the integer part those of its format: a radix of 0 becomes 10, and then a digit is required.
 #[inline(always)]
 fn set_radix(fields: &mut FormatFields)
     ensures { format_of fields.new ≡ integer_of fields.old }
@@ -61,7 +61,7 @@ impl FixedFields {
         self.integer.are_known() && self.keeps_reserved()
     }
 
-    // Whether the reserved bytes are 0: they are asked for as those of a format are.
+    // Whether the reserved bytes are 0. `FormatFields` tests them, as if they were those of a format.
     #[inline(always)]
     fn keeps_reserved(&self) -> bool
         ensures { result ≡ are_zeros self.now.reserved }
@@ -74,8 +74,8 @@ impl FixedFields {
         kept.are_known()
     }
 
-    // The status of the format of integers, or of the description of numbers that have places. A decimal format without
-    // punctuation, as most columns have, isn't asked for each of its rules.
+    // The status of the format if there are no places, and otherwise of the description. A decimal format without
+    // punctuation, as most columns have, isn't tested rule by rule.
     pub(crate) fn number_status(&self) -> u32
         ensures { result ≡ number_status self.now }
     {
@@ -91,7 +91,7 @@ impl FixedFields {
         self.description_status()
     }
 
-    // The status of the description, as C asks for it. Two calls ask, once each.
+    // The status of the description, as C gets it. Two calls need it, once each.
     #[inline(never)]
     fn description_status(&self) -> u32
         ensures { result ≡ fixed_format_status self.now }
@@ -123,7 +123,7 @@ impl FixedFields {
         self.integer.is_plain_decimal() || self.integer.is_plain_but_radix()
     }
 
-    // Whether the description is valid and its integer part has the standard format: few words of it say so.
+    // Whether the description is valid and its integer part has the standard format: a few of its words show this.
     #[inline(always)]
     pub(crate) fn is_plain(&self) -> bool
         ensures { IsTrue result → IsPlainFixed self.now }
@@ -131,7 +131,7 @@ impl FixedFields {
         self.has_standard_integer() && self.keeps_reserved() && self.standard().is_plain()
     }
 
-    // Whether the description is valid, whose integer part is decimal and has no punctuation.
+    // Whether the description is valid. Its integer part has to be decimal and without punctuation.
     #[inline(always)]
     pub(crate) fn is_decimal(&self) -> bool
         requires known { IsTrue (are_known self.now.integer) }
@@ -156,7 +156,7 @@ impl FixedFields {
         }
     }
 
-    // The description beside the standard format, which isn't made field by field.
+    // The description with the standard format for its integer part: that format isn't built field by field.
     #[inline(always)]
     pub(crate) fn standard(&self) -> FixedFormat
         ensures { result ≡ record (fixed_of self.now) { integer = standard } }
@@ -193,7 +193,7 @@ impl FixedFields {
         rest.is_standard() || rest.is_zero()
     }
 
-    // The description of such fields, for which it is valid. It isn't made field by field.
+    // The description of fields that `has_separator_alone` takes. It has to be valid, and isn't built field by field.
     #[inline(always)]
     pub(crate) fn separated(&self) -> FixedFormat
         requires valid { fixed_fault (fixed_of self.now) ≡ None }

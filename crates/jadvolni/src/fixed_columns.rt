@@ -17,8 +17,8 @@ use lexical_tables::codes::{AT_ONCE, PARSED};
 use lexical_tables::{breaks_zero_rule, is_quick, units_of_front};
 
 impl ColumnFields<'_> {
-    // The description of its fixed-point numbers. One with the standard format, or with a separator beside it, isn't made field by
-    // field.
+    // The description of its fixed-point numbers. Its integer part isn't built field by field if that is the standard
+    // format, or that format with a separator.
     #[inline(always)]
     #[tactic(auto, using(crate::proofs::ColumnNumbers::standard_is))]
     fn fixed_format(&self) -> FixedFormat
@@ -47,7 +47,7 @@ impl ColumnFields<'_> {
         }
     }
 
-    // Whether its numbers are amounts that `put_amount` reads: it is asked once a call.
+    // Whether its numbers are amounts that `put_amount` reads. A call on a table asks this once.
     #[inline(never)]
     pub(crate) fn has_quick_amounts(&self) -> bool
         ensures { IsTrue result → HasAmounts (target_of self.now) }
@@ -99,8 +99,8 @@ impl ColumnFields<'_> {
         self.arrays.put_coded(numbers, row, is_negative, units)
     }
 
-    // Puts the amount of a text into a row's place, where the column's integer parts have a separator beside the standard format,
-    // and the text is a short one, alone or in groups of three.
+    // Puts the amount of a text into a row's place, if the format of the column's integer parts is the standard one
+    // with a separator, and the text is short, with or without groups of three digits.
     #[inline(never)]
     pub(crate) fn put_in_groups(&mut self, row: usize, text: &[u8]) -> bool
         requires places { self.old.description.places ≢ 0 }

@@ -137,7 +137,7 @@ fn fixed_long<T: Integer, S: Slot<T>>(text: &[u8], fields: &FixedFields, value: 
     )
 }
 
-// The whole text, under a plain description that takes fewer places. It needs no stack, which the longer way needs.
+// The whole text, under a plain description that takes fewer places. Unlike the longer way, it needs no stack.
 #[inline(never)]
 fn fixed_fewer<T: Integer, S: Slot<T>>(text: &[u8], fields: &FixedFields, value: &mut S) -> Outcome
     requires { IsPlainFixed fields.now }
@@ -150,14 +150,15 @@ fn fixed_fewer<T: Integer, S: Slot<T>>(text: &[u8], fields: &FixedFields, value:
     }
 }
 
-// Whether a text may lack places, and is too long to have been read in place: behind a sign it has up to sixteen bytes.
+// Whether a text may lack places, and is too long to have been read in place, but has at most sixteen bytes behind a
+// sign.
 #[inline(always)]
 fn may_lack_places(text: &[u8], fields: &FixedFields) -> bool {
     fields.takes_fewer != 0 && text.len() > 8 && text.len() <= 17
 }
 
-// The whole text, under a plain description, for a text that isn't read in place. Out of line, so that a short text pays for no
-// choice.
+// The whole text, under a plain description, for a text that isn't read in place. Out of line, so that a short text
+// doesn't pay for the choice.
 #[inline(never)]
 fn fixed_plain<T: Integer, S: Slot<T>>(text: &[u8], fields: &FixedFields, value: &mut S) -> Outcome
     requires { IsPlainFixed fields.now }

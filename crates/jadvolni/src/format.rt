@@ -56,7 +56,7 @@ fn flag(byte: u8) -> bool
     byte != 0
 }
 
-// Whether a bit, by what it is worth, is set.
+// Whether the bit of this value is set.
 #[inline(always)]
 fn has_bit(byte: u8, bit: u8) -> bool
     ensures { result ≡ has_bit bit byte }
@@ -104,7 +104,7 @@ impl FormatFields {
         (low < 8) & (middle == 0) & (high == 0)
     }
 
-    /// Whether the format is known, decimal, and without punctuation: what its kind is then, needn't be found.
+    /// Whether the format is known, decimal, and without punctuation: then its kind is `Decimal`.
     #[inline(always)]
     pub(crate) fn is_plain_decimal(&self) -> bool
         ensures known { IsTrue result → IsTrue (are_known self.now) }
@@ -119,7 +119,7 @@ impl FormatFields {
         first == 10 && asks_for_no_literals(self) && self.required_mantissa_sign == 0
     }
 
-    /// Whether the radix is 0 and the format is known, and without punctuation: beside radix 10 its kind needn't be found.
+    /// Whether the format is known and without punctuation, and its radix is 0: with radix 10 its kind is `Decimal`.
     #[inline(always)]
     pub(crate) fn is_plain_but_radix(&self) -> bool
         ensures radix { IsTrue result → self.now.mantissa_radix ≡ 0 }
@@ -152,7 +152,7 @@ impl FormatFields {
 
     /// Whether all fields but the radix are those of the standard format.
     ///
-    /// The fields are asked in their order, as two words of eight bytes and one of sixteen.
+    /// The fields are tested in their order, as two words of eight bytes and one of sixteen.
     #[inline(always)]
     #[tactic(auto, using(crate::proofs::ZeroBytes::no_bits))]
     pub fn is_standard_but_radix(&self) -> bool
@@ -190,7 +190,7 @@ impl FormatFields {
         ensures { result ≡ format_of self.now }
     {
         let nul = self.nul_is_punctuation;
-        // From the ninth byte back to the first: in their own order the compiler joins these by 25 shifts.
+        // The format's first nine bytes are set last to first: first to last, the compiler joins them by 25 shifts.
         NumberFormatBuilder::new()
             .integer_internal_digit_separator(flag(self.integer_internal_digit_separator))
             .integer_trailing_digit_separator(flag(self.integer_trailing_digit_separator))
@@ -214,7 +214,7 @@ impl FormatFields {
 
     /// Whether the format is surely a valid one with punctuation, as those of most languages are: decimal with the separator
     /// `_`, a comma, a point, an apostrophe or a blank, or with literals or a required sign alone; or hexadecimal with `0x`.
-    /// The first four bytes are asked as a word.
+    /// The first four bytes are tested as a word.
     #[inline(always)]
     #[tactic(auto, using(lexical_util::proofs::FormatKinds::other_kind))]
     pub(crate) fn is_surely_other(&self) -> bool

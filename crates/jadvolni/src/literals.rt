@@ -42,7 +42,7 @@ pub extern "C" fn jadvolni_parse_literal(
 /// The status of a literal whose suffix no entry of the table has.
 pub const UNKNOWN_SUFFIX: u32 = 23;
 
-/// The status of a table of suffixes that no literal can be read by.
+/// The status of an invalid table of suffixes: no literal can be read with it.
 pub const INVALID_SUFFIX_TABLE: u32 = 24;
 
 /// An entry of a table of suffixes: `jadvolni_suffix` in C, where each field is described.
@@ -94,7 +94,7 @@ impl SuffixEntry for SuffixFields<'_> {
         self.text
     }
 
-    // No entry without a kind is asked.
+    // Never called on an entry without a kind.
     #[inline(always)]
     fn kind(&self) -> IntegerKind {
         kind_coded(self.code).unwrap_or(IntegerKind::U8)

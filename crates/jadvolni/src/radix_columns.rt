@@ -22,8 +22,8 @@ use lexical_parse_integer::quick::complete_valid;
 use lexical_parse_integer::{Error, Options};
 use lexical_tables::put_in_radix;
 
-// Puts the integer of a text into a row's place, or returns the text's fault, under a valid format, which is made here: a caller
-// of each type would keep it in memory for all of them.
+// Puts the integer of a text into a row's place, or returns the text's fault, under a valid format. The format is built
+// here: a caller with a branch for each type would keep it in memory for all of them.
 #[inline(never)]
 fn put_by_format<T: ParseInteger>(
     values: &mut [T],
@@ -205,7 +205,8 @@ impl ColumnFields<'_> {
             .put_by_format(numbers, row, start, text, &self.description.integer)
     }
 
-    // Puts the number of a text into a row's place, and returns whether it did. Out of line: the fault goes through memory.
+    // Puts the number of a text into a row's place, and returns whether it did. Out of line, since the fault goes
+    // through memory.
     #[inline(never)]
     fn put_rare_number(&mut self, row: usize, text: &[u8]) -> bool
         requires numbers { keeps_text (target_of self.old) ≡ false }
@@ -226,8 +227,8 @@ impl ColumnFields<'_> {
         self.put_by_format(row, 0, text).is_none()
     }
 
-    // Puts the number of a text into a row's place, where it is one, and returns whether it did. Under a plain radix no fault is
-    // told: what isn't read at once is left.
+    // Puts the number of a text into a row's place, if the text is one, and returns whether it did. Under the standard
+    // format in another radix only the fast path is tried.
     #[inline(always)]
     pub(crate) fn put_bare_number(&mut self, row: usize, text: &[u8]) -> bool
         requires numbers { keeps_text (target_of self.old) ≡ false }

@@ -83,8 +83,8 @@ fn skipped_outcome(read: Skipped) -> SkippingOutcome
 
 /// Reads the table of a text, or of a part of one, each column into an array of its own, and skips the rows at fault.
 ///
-/// What is known of these is put at the front of `bad`, as far as there is room. Where `is_last` is false, a row
-/// that the text ends in is left.
+/// What is known of the rows at fault is put at the front of `bad`, as far as there is room. Where `is_last` is false,
+/// a row that the text ends in isn't read.
 #[unsafe(no_mangle)]
 pub extern "C" fn jadvolni_parse_table_skipping(
     text: &[u8],

@@ -16,14 +16,15 @@ use lexical_parse_integer::{Error, Options};
 use lexical_tables::codes::{NOT_READ, PARSED, TEXTS, has_bits, under_format};
 use lexical_tables::{CellText, TableColumn, put_bit};
 
-/// The status of a table that no text can be read by.
+/// The status of an invalid table: no text can be read with it.
 pub const INVALID_TABLE: u32 = 17;
 
 /// A column of a table: `jadvolni_table_column` in C, where each field is described.
 ///
-/// Its cells are read as numbers of the array that has room: as fixed-point numbers where these have places, and else as
-/// integers. Or they are texts, if there is room for where these stand. Where no array has room, the column isn't read, and its
-/// format has no radix. Where there is room for bits, a number or a text may be missing.
+/// If an array of numbers has room, the cells are read as numbers of that array's type: fixed-point numbers if the
+/// description has places, and integers otherwise. Or else, if the array of texts has room, they are texts. If no array
+/// has room, the column isn't read, and its format has to have the radix 0. If there is room for bits, a number or a
+/// text may be missing.
 #[repr(C)]
 #[derive(Drop)]
 pub struct ColumnFields<'a> {
@@ -43,7 +44,7 @@ impl ColumnFields<'_> {
         self.description.places == 0 && self.description.integer.is_standard()
     }
 
-    // Whether no array of numbers has room. Only columns with an array of texts ask it: so it stays out of the way of numbers.
+    // Whether no array of numbers has room. Out of line, since only columns with an array of texts ask this.
     #[inline(never)]
     fn has_no_numbers(&self) -> bool
         ensures { result ≡ is_none (array_in self.now.arrays) }
@@ -110,8 +111,9 @@ impl ColumnFields<'_> {
         self.arrays.put_standard_parsed(row, start, text)
     }
 
-    // Puts the number of a text that isn't read at once into a row's place, or returns the text's fault. Under the standard
-    // format, as most columns have it, it isn't tried at once again; under another one it wasn't tried.
+    // Puts the number of a text that the fast path left into a row's place, or returns the text's fault. Under the
+    // standard format, which most columns have, the fast path isn't tried again; under another one it hasn't been tried
+    // yet.
     #[inline(always)]
     fn put_parsed_number(
         &mut self,
@@ -267,7 +269,7 @@ impl TableColumn for ColumnFields<'_> {
         self.read_left(row, start, text, ahead, options)
     }
 
-    // A column of another format isn't tried: `read_left` makes that format, once.
+    // Doesn't try a column of another format: `read_left` builds that format, once.
     #[inline(always)]
     fn read_at_once(&mut self, row: usize, ahead: &[u8], size: usize) -> bool {
         if !self.put_number_at_once(row, ahead, size) {

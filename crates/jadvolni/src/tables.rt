@@ -138,8 +138,8 @@ fn outcome_of(answer: Result<Table, TableError>) -> TableOutcome
     }
 }
 
-// The status of the first column that can't be read, if `rows` rows are asked for, and its number; or the status 0. Two calls ask
-// it, once each.
+// The status and the number of the first column that can't be read, if `rows` rows are asked for; or the status 0. Two
+// calls need this, once each.
 #[inline(never)]
 pub(crate) fn wrong_column(columns: &[ColumnFields<'_>], rows: usize) -> (u32, usize)
     ensures wrong { result.0 ≢ 0 → wrong_column rows 0 columns.now
@@ -159,7 +159,7 @@ pub(crate) fn wrong_column(columns: &[ColumnFields<'_>], rows: usize) -> (u32, u
 
 /// Reads the table of a text, or of a part of one, each column into an array of its own.
 ///
-/// Where `is_last` is false, a row that the text ends in is left.
+/// Where `is_last` is false, a row that the text ends in isn't read.
 #[unsafe(no_mangle)]
 pub extern "C" fn jadvolni_parse_table(
     text: &[u8],

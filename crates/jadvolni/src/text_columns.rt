@@ -57,8 +57,8 @@ impl ColumnFields<'_> {
         );
     }
 
-    // Puts where a text without quotes stands into a row's place of a column of texts, and sets the row's bit. Texts stay out of
-    // the way of numbers.
+    // Puts where a text without quotes stands into a row's place of a column of texts, and sets the row's bit. Out of
+    // line, so that columns of numbers don't pay for it.
     #[tactic(auto, using(lexical_tables::proofs::CodeSteps::text_code))]
     #[inline(never)]
     pub(crate) fn put_whole_text(&mut self, row: usize, start: usize, size: usize)

@@ -15,7 +15,7 @@ abbrev pub with_more : ℕ → List ℕ → List ℕ
 with_more more [] = []
 with_more more (byte ∷ bytes) = (byte + more) ∷ bytes
 
--- The digits of a text, where so much is added to its first byte, write a number.
+-- The digits of a text, after `more` is added to its first byte, write a number.
 pub record WritesDecimal (more : ℕ) (text : List ℕ) (number : ℕ) : Type 0 where
   pub digits : AreDigits 10 (with_more more text)
   pub worth : number ≡ word_value 10 (with_more more text)

@@ -1,5 +1,5 @@
-//! The numbers that decimal digits write: a few by bytes, more by words of eight bytes. Digits 0 fill up a word that
-//! the text doesn't, and no branch hangs on a digit.
+//! The numbers that decimal digits write: a few digits are read by bytes, more by words of eight bytes. A word that the
+//! text doesn't fill is filled with digits 0, and no branch depends on a digit.
 ghost use Rattle.std.specs.Prelude.{◌≡◌, ◌+◌, ◌-◌, ◌*◌, ◌/◌, ◌<◌, ◌≤◌, ◌^◌, ◌%◌, ◌∷◌, [], IfSome, get_or, length, slice_range, take};
 ghost use Rattle.lexical_digits.specs.WrittenNumbers.{WritesDecimal, bytes_number};
 ghost use Rattle.lexical_digits.specs.Words.{AreDigits, word_bytes, word_value};
@@ -68,8 +68,8 @@ pub(crate) fn number_of_front(word: u64, count: u32) -> u32
     number_of_digits(digits + ZEROS)
 }
 
-// What the digits of a text of up to four bytes are worth, by the length of the text and in the lanes of `spread`. A
-// product with these adds up the lanes, the first lane by the highest weight, in its highest lane.
+// For each length of a text up to four, the weights of the four lanes of `spread`, that of the last lane first. So the
+// highest lane of a product with the digits in these lanes is the sum of the digits times their weights.
 static WEIGHTS: [u64; 5] = [
     0,
     0x0000_0000_0000_0001,
@@ -78,7 +78,8 @@ static WEIGHTS: [u64; 5] = [
     0x03e8_0064_000a_0001,
 ];
 
-// The bytes of a text of up to four, each in sixteen bits behind a digit 0. Where there are fewer, some stand twice.
+// The bytes of a text of up to four, each in a lane of sixteen bits below a digit 0. If there are fewer than four, some
+// stand in several lanes, of which one alone has a weight above 0.
 #[inline(always)]
 fn spread(text: &[u8]) -> u64
     requires some { 1 ≤ length text.now }
@@ -146,8 +147,8 @@ fn number_of_first_of_four(word: u32, length: usize) -> u32
 
 // The number of five to eight digits: the first four and the last four, which overlap.
 //
-// The last ones are loaded first, here and below. Else the compiler takes the first byte of both ranges before it knows
-// the range, and loads the others one by one.
+// The last four are loaded first, here and below. Otherwise the compiler loads the first byte of either range before it
+// knows which, and then the others one by one.
 #[inline(always)]
 pub(crate) fn number_to_8(text: &[u8]) -> Option<u32>
     requires some { 4 < length text.now }
@@ -165,8 +166,8 @@ pub(crate) fn number_to_8(text: &[u8]) -> Option<u32>
     Some(front * 10000 + number_of_4digits(last))
 }
 
-// The numbers of the last eight of nine to sixteen digits, and of those before: of the first eight bytes, those that
-// are among the last eight too are shifted out once all are known to be digits.
+// The number of the digits before the last eight of nine to sixteen, and the number of the last eight. Those of the
+// first eight bytes that are among the last eight too are shifted out once all are known to be digits.
 #[inline(always)]
 pub(crate) fn numbers_to_16(text: &[u8]) -> Option<(u32, u32)>
     requires some { 8 < length text.now }

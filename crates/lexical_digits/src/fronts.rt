@@ -38,7 +38,8 @@ fn front_in_word(text: &[u8], word: u64) -> (u32, usize)
     (number_of_front(word, count), count as usize)
 }
 
-// One to three bytes of a text, with no branch for their count: one that is read twice is put twice to one place.
+// One to three bytes of a text as a word, with no branch for their count: a byte that is read twice is put twice into
+// the same place of the word.
 #[inline(always)]
 fn short_word(text: &[u8]) -> u64
     requires some { 1 ≤ length text.now }
@@ -51,7 +52,7 @@ fn short_word(text: &[u8]) -> u64
     text[0] as u64 | middle | last
 }
 
-/// The number of the digits among the first eight bytes of a text, and how many they are.
+/// The number of the digits that the first eight bytes of a text begin with, and how many they are.
 #[inline(always)]
 pub fn number_in_front(text: &[u8]) -> (u32, usize)
     requires { 1 ≤ length text.now }
@@ -65,7 +66,7 @@ pub fn number_in_front(text: &[u8]) -> (u32, usize)
     }
 }
 
-// Eight bytes of a text from a place on that has eight before it. Bytes 0 stand behind the text.
+// Eight bytes of a text from a place on, which has at least eight before it. What is missing behind the text is 0.
 #[inline(always)]
 fn next_word(text: &[u8], at: usize) -> u64
     requires behind { 8 ≤ at }
@@ -80,8 +81,8 @@ fn next_word(text: &[u8], at: usize) -> u64
     word_at(text, n - 8) >> (64 - 8 * rest as u32)
 }
 
-/// The number of the digits among the eight bytes from a place on that has eight before it, or from the text's end, and
-/// how many they are.
+/// The number of the digits that the eight bytes from a place on begin with, and how many they are. The place has to
+/// have at least eight bytes before it, and may be the text's end.
 #[inline(always)]
 pub fn number_behind(text: &[u8], at: usize) -> (u32, usize)
     requires behind { 8 ≤ at }

@@ -1,5 +1,5 @@
-//! The values of hexadecimal digits: a few by bytes, more by two blocks that overlap. No branch hangs on a digit: a
-//! table has the value of each byte, and for what is no digit one so large that the sum shows it.
+//! The values of hexadecimal digits: a few are read by bytes, more by two blocks that overlap. No branch depends on a
+//! digit: a table has the value of each byte, and for a byte that is no digit a value so large that the sum shows it.
 ghost use Rattle.std.specs.Prelude.{◌≡◌, ◌+◌, ◌*◌, ◌^◌, ◌<◌, ◌≤◌, ◌≤ℤ◌, IfSome, IsTrue, length, pos, unwrap_or};
 ghost use Rattle.lexical_util.specs.Digit.{digit};
 ghost use Rattle.lexical_util.specs.Number.{number_limit};
@@ -37,9 +37,8 @@ fn number_or_more(text: &[u8]) -> u64
     number
 }
 
-// The number of the digits before the last `size`, which are no more than these, and the number of
-// the last `size`. The first is read from the first `size` digits, of which those that are among
-// the last too are shifted out.
+// The number of the digits before the last `size`, of which there are at most `size`, and the number of the last
+// `size`. The former is read from the first `size` digits: those that are among the last too are shifted out.
 #[inline(always)]
 fn numbers_of_blocks(text: &[u8], size: usize) -> Option<(u32, u32)>
     requires small { size ≤ 8 }
@@ -149,9 +148,9 @@ fn value_from_nine<T: Integer>(digits: &[u8], is_negative: bool) -> Option<T>
     value_of_blocks::<T>(digits, 8, is_negative)
 }
 
-/// The value of hexadecimal digits, with a minus where `is_negative`, if the type surely has room
-/// for as many. `i8` and `i16` may have one digit more. Each range of lengths ends on its own, so
-/// that no text pays for what another one needs. Out of line, so that decimal texts don't either.
+/// The value of hexadecimal digits, with a minus where `is_negative`, if the type surely has room for that many. `i8`
+/// and `i16` may have one digit more. Each range of lengths returns on its own, so that no text pays for what another
+/// one needs. Out of line, so that decimal texts don't pay either.
 #[inline(never)]
 pub fn value_of_nibbles<T: Integer>(digits: &[u8], is_negative: bool) -> Option<T>
     requires some { 1 ≤ length digits.now }

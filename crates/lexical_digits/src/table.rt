@@ -1,5 +1,5 @@
-//! The values of digits of any radix, one after another. The digit of a byte is found in a table, and so few are read
-//! that none of their numbers leaves the type: no step is tested.
+//! The values of digits of any radix, read one after another. The digit of a byte is looked up in a table. So few
+//! digits are read that their number can't leave the type: no step is tested.
 ghost use Rattle.std.specs.Prelude.{◌<◌, ◌≤◌, IfSome, IsTrue, length};
 ghost use Rattle.lexical_util.specs.Digit.{IsRadix};
 ghost use Rattle.lexical_util.specs.Number.{HasRoom, IsNumber};
@@ -29,8 +29,8 @@ fn number_by_table<T: Integer>(digits: &[u8], radix: u32, most: usize) -> Option
     Some(value)
 }
 
-// The value of digits of the radix in a type of fewer than 32 bits: it has room for few digits without a test, so that their
-// number is read with 32 bits, and compared once.
+// The value of digits of the radix in a type of fewer than 32 bits. Such a type has room for few digits without a test,
+// so their number is read with 32 bits, and compared with the type's limit once.
 #[inline(always)]
 fn value_by_limit<T: Integer>(digits: &[u8], radix: u32, is_negative: bool) -> Option<T>
     requires bits { T.TYPE.bits < 32 }

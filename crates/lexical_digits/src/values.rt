@@ -135,8 +135,8 @@ fn with_sixteen<T: Integer>(digits: &[u8], place: usize, value: T) -> Option<T>
     value.checked_mul_add(scale, rest, false)
 }
 
-/// The value of seventeen digits and more, with a minus where `is_negative`: a few digits, and then sixteen by
-/// sixteen. Out of line, so that shorter numbers don't pay for it.
+/// The value of seventeen digits and more, with a minus where `is_negative`: a few digits are read first, and then
+/// sixteen at a time. Out of line, so that shorter numbers don't pay for it.
 #[inline(never)]
 pub fn value_from_17<T: Integer>(digits: &[u8], is_negative: bool) -> Option<T>
     requires bits { 32 < T.TYPE.bits }

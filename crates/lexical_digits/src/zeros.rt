@@ -19,7 +19,7 @@ fn behind_words(text: &[u8], start: usize) -> usize
     at
 }
 
-/// The place behind the zeros from a place on: by words of eight bytes, since of a long number's zeros there may be many.
+/// The place behind the zeros from a place on: by words of eight bytes, since a long number may begin with many.
 #[inline(never)]
 pub fn behind_zeros(text: &[u8], start: usize) -> usize
     requires { start ≤ length text.now }

@@ -5,7 +5,7 @@ use Rattle.std.specs.Prelude.{ℕ, ◌+◌, ◌%◌, List, [], ◌∷◌}
 abbrev pub lowered : ℕ → ℕ
 lowered byte = (byte + 208) % 256
 
--- three and three, and the first of each three once more behind it
+-- numbers in groups of three, each followed by its first one again
 abbrev pub in_threes : List ℕ → List ℕ
 in_threes [] = []
 in_threes (a ∷ []) = []

@@ -13,8 +13,8 @@ use lexical_parse_integer::parse::ParseInteger;
 use lexical_parse_integer::quick::{complete_valid, value_if_short};
 use lexical_parse_integer::{Error, NumberFormat, Result};
 
-// The first field, what is behind its separator, and the marks of that: by the marks of the text, or by a look for the
-// field's end where it has none.
+// The first field, what is behind its separator, and the marks of that. The field's end is found by the text's marks,
+// or by a search where it has none.
 #[inline(always)]
 fn cut_field(text: &[u8], marks: u64, separator: u8) -> (&[u8], &[u8], u64)
     requires { AreMarks separator text.now marks }
@@ -31,7 +31,7 @@ fn cut_field(text: &[u8], marks: u64, separator: u8) -> (&[u8], &[u8], u64)
     (&text[..size], behind, more)
 }
 
-// The number of a field, or its fault: a short decimal one in place.
+// The number of a field, or its fault. A short decimal field is read in place.
 #[inline(always)]
 fn number_of_field<T: ParseInteger>(field: &[u8], format: &NumberFormat) -> Result<T>
     requires valid { IsNone (fault format.now) }
@@ -43,8 +43,9 @@ fn number_of_field<T: ParseInteger>(field: &[u8], format: &NumberFormat) -> Resu
     }
 }
 
-// Reads fields into a slice from its front, as far as it has room, or up to one at fault: how many numbers it has then, what
-// is left of the text, and the fault of the first field there, if that ended it. Out of line, to keep registers for plain fields.
+// Reads fields into a slice from its front, as far as it has room, or up to a field at fault. Returns how many numbers
+// the slice then has, what is left of the text, and the fault, if one ended the reading: that of the first field left.
+// Out of line, to keep registers for plain fields.
 #[inline(never)]
 pub(crate) fn read_any_format<'a, T: ParseInteger>(
     text: &'a [u8],

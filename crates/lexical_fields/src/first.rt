@@ -13,9 +13,9 @@ use lexical_parse_integer::parse::ParseInteger;
 use lexical_parse_integer::quick::field_in_front;
 use lexical_parse_integer::{NumberFormat, Options, Result};
 
-// The answer of the first field, which starts at a place, what is after its separator, and whether the next fields are
-// worth a look by their marks. Where the separator is no part of a number, a few digits are read and their end is found
-// in one pass; every other field is cut first.
+// The answer of the first field, which starts at a place, what is after its separator, and whether it is worth
+// searching for the next fields by marks. Where the separator can't be a part of a number, a few digits are read and
+// their end is found in one pass; every other field is cut first.
 #[inline(always)]
 pub(crate) fn read_first<'a, T: ParseInteger>(
     start: usize,

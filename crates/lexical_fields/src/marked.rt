@@ -206,8 +206,9 @@ pub fn split_marked(text: &[u8], marks: u64, separator: u8) -> (usize, &[u8], u6
     (size, &text[size + 1..], marks >> size >> 1)
 }
 
-// Reads fields into a slice behind the numbers that it has, as long as their ends are marked and each is digits alone or
-// behind a minus: how many numbers it has then, and what is left of the text. Out of line, so that the loop has all registers.
+// Reads fields into a slice behind the numbers that it has, as long as their ends are marked and each is digits alone
+// or behind a minus. Returns how many numbers the slice then has, and what is left of the text. Out of line, so that
+// the loop has all registers.
 #[inline(never)]
 pub(crate) fn read_marked<'a, T: ParseInteger>(
     text: &'a [u8],

@@ -25,9 +25,10 @@ pub fn whole_fields(text: &[u8], separator: u8) -> usize
 /// Reads the numbers in the whole fields of a part of a text, as [`read_column`](crate::read_column) does in a whole
 /// text.
 ///
-/// A part may end within a field. That field is left, unless the part is the last one: put the bytes from `stop` on in
-/// front of the next part. Where the slice is full, `stop` is the start of the next field, as ever. Places count from
-/// the part's start. Read so, all parts give the numbers and the first fault of the whole text ([`reads_in_parts`]).
+/// A part may end within a field. That field isn't read, unless the part is the last one: put the bytes from `stop` on
+/// in front of the next part. Where the slice is full, `stop` is the start of the next field, as in a whole text.
+/// Places count from the part's start. Read in this way, all parts give the numbers and the first fault of the whole
+/// text ([`reads_in_parts`]).
 ///
 /// With a comma, `12,7` gives one number and stops at 3 where more follows, and two numbers where it is the last part.
 pub fn read_column_part<T: ParseInteger>(

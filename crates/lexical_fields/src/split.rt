@@ -6,8 +6,8 @@ use crate::search::first_of_16;
 
 /// How many bytes the first field has: those before the first separator, or all where there is none.
 ///
-/// By it a caller cuts a text without reading numbers: the first line of a text is its first field with `\n` for the
-/// separator.
+/// A caller can use it to cut a text without reading numbers: the first line of a text is its first field if the
+/// separator is `\n`.
 #[inline(always)]
 pub fn field_length(text: &[u8], separator: u8) -> usize
     ensures value { result ≡ field_length separator text.now }

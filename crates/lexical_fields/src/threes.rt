@@ -1,5 +1,5 @@
 //! The numbers of up to twelve decimal digits at the front of sixteen bytes, with no branch for their count: a shuffle
-//! puts them behind digits 0 in threes, and one product of lanes joins each three.
+//! puts them behind zeros in groups of three, and one product of lanes joins each group.
 ghost use Rattle.std.specs.Prelude.{◌≡◌, ◌+◌, ◌-◌, ◌*◌, ◌<◌, ◌≤◌, ◌∷◌, [], ◌++◌, IfSome, IsTrue, length, map, replicate, take};
 ghost use Rattle.std.specs.Simd.Lanes.{Each1, dots};
 ghost use Rattle.lexical_digits.specs.Lanes.{pairs_of};
@@ -8,8 +8,8 @@ ghost use Rattle.lexical_fields.specs.Threes.{in_threes, lowered, weights};
 
 use std::simd::prelude::*;
 
-// Row n has the places of n digits among sixteen bytes, as the last of twelve in threes, and the first of each three
-// once more behind it. A lane of 128 is made 0.
+// Row n shuffles n digits, the first of sixteen bytes, to the end of twelve. These stand in four groups of four lanes:
+// three digits, and the first of them again. 128 stands for a lane of 0.
 static PLACES: [[u8; 16]; 13] = [
     [
         128, 128, 128, 128, 128, 128, 128, 128, 128, 128, 128, 128, 128, 128, 128, 128,

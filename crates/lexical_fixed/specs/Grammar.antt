@@ -56,7 +56,7 @@ abbrev pub fraction_fault : Fixed → IntegerType → List ℕ → ℤ → ℕ �
 fraction_fault fixed type text whole place =
     digits_fault type (is_negative type text) whole (fraction fixed text place) (place + 1)
 
--- the zeros that aren't written take the number out of the type, which is told at a place
+-- the zeros that aren't written take the number out of the type, which is reported at a place
 abbrev pub units_fault : Fixed → IntegerType → List ℕ → ℤ → ℕ → ℕ → Option Error
 units_fault fixed type text whole place stop =
     zeros_fault type (is_negative type text) (written fixed type text whole place)

@@ -11,7 +11,7 @@ use crate::quick::{callers, front_at_once, value_if_short};
 use lexical_util::num::Integer;
 use lexical_util::result::Result;
 
-// The number of a whole text that isn't short, out of line, so that a short one pays for none of it.
+// The number of a whole text that isn't short. Out of line, so that a short one doesn't pay for it.
 #[inline(never)]
 fn read_not_short<T: Integer>(text: &[u8], format: &FixedFormat) -> Result<T>
     requires valid { IsNone (fixed_fault format.now) }
@@ -22,7 +22,7 @@ fn read_not_short<T: Integer>(text: &[u8], format: &FixedFormat) -> Result<T>
 
 /// An integer type that is read from fixed-point numbers under a valid description.
 ///
-/// It is for callers that test the description once, by [`FixedFormat::is_valid`], and then read many texts.
+/// It is for callers that test the description once, with [`FixedFormat::is_valid`], and then read many texts.
 pub trait ParseFixed: Integer {
     /// The number that the whole text stands for, in units of the last place, as `from_fixed` answers it.
     fn parse_fixed(bytes: &[u8], format: &FixedFormat) -> Result<Self>
@@ -55,7 +55,8 @@ impl<T: Integer> ParseFixed for T {
     }
 }
 
-// The number of the whole text, under a description that isn't plain. Out of line, so that a plain one pays for none.
+// The number of the whole text, under a description that isn't plain. Out of line, so that a plain one doesn't pay for
+// it.
 #[inline(never)]
 fn whole_under_any<T: Integer>(
     bytes: &[u8],

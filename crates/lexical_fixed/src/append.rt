@@ -1,4 +1,4 @@
-// A number with more digits behind it, several at a time, where its type has that.
+// Appends digits to a number, several at a time, where its type has the result.
 ghost use Rattle.std.specs.Prelude.{◌≡◌, ◌≤ℤ◌, ◌≤◌, ◌<◌, ◌^◌, IfSome, pos, true};
 ghost use Rattle.std.specs.Option.{option_map};
 ghost use Rattle.lexical_util.specs.Number.{HasSign, is_number, mul_add, number_if_fits};
@@ -29,7 +29,7 @@ pub(crate) fn power_of_ten(exponent: usize) -> u32
     POWERS[exponent]
 }
 
-// How many digits are appended at once at most.
+// How many digits can be appended at once, at most.
 #[inline(always)]
 pub(crate) fn digits_at_once<T: Integer>() -> usize
     ensures { result ≡ digits_at_once T.TYPE }
@@ -43,7 +43,7 @@ pub(crate) fn digits_at_once<T: Integer>() -> usize
     }
 }
 
-// The power of ten by which a number goes up for `count` digits behind it.
+// The power of ten that a number is multiplied by to append `count` digits.
 #[inline(always)]
 fn scale_for<T: Integer>(count: usize) -> T
     requires { count ≤ digits_at_once T.TYPE }
@@ -55,7 +55,7 @@ fn scale_for<T: Integer>(count: usize) -> T
     T::from_u32(power_of_ten(count))
 }
 
-// The number with `count` digits behind it, which write another, where the type has that.
+// The number with `count` digits appended, which write `part`, where the type has the result.
 #[inline(always)]
 pub(crate) fn append_part<T: Integer>(
     value: T,
@@ -72,7 +72,7 @@ pub(crate) fn append_part<T: Integer>(
     value.checked_mul_add(scale_for::<T>(count), part, is_negative)
 }
 
-// The number with few digits behind it, which write another, where the type has that.
+// The number with up to nine digits appended, which write `number`, where the type has the result.
 #[inline(always)]
 pub(crate) fn append_number<T: Integer>(
     value: T,
@@ -92,7 +92,7 @@ pub(crate) fn append_number<T: Integer>(
     value.checked_mul_add(scale, T::from_u32(number), is_negative)
 }
 
-// The number with digits behind it, where the type has that.
+// The number with digits appended, where the type has the result.
 #[inline(always)]
 pub(crate) fn append_digits<T: Integer>(number: T, digits: &[u8], is_negative: bool) -> Option<T>
     requires bits { 32 ≤ T.TYPE.bits }

@@ -1,5 +1,5 @@
-// Short amounts under any format: digits around a point, alone or in groups of three. A separator is taken out as the point is,
-// of one word or of two.
+// Short amounts under any format: digits around a point, with or without groups of three. A separator is removed from a
+// word, or from two, as the point is.
 ghost use Rattle.std.specs.Prelude.{◌≡◌, ◌+◌, ◌-◌, ◌*◌, ◌<◌, ◌≤◌, ◌^◌, IfSome, IsTrue, None, Some, length, slice_index, true};
 ghost use Rattle.lexical_digits.specs.Value.{positional_value};
 ghost use Rattle.lexical_util.specs.Digit.{digit};
@@ -88,8 +88,8 @@ fn numbers_in_groups<const CALLER: u8>(
     ensures high { IfSome result (λ found. found.0 < 100000000) }
     ensures low { IfSome result (λ found. found.1 < 100000000) }
 {
-    // The last eight bytes hold the point, its places, three digits, the separator, and so many digits of the next group that as
-    // many as there are places end the first part. With three places there are none of them.
+    // With `p` digits behind the point, the last eight bytes are `3 - p` digits of a group, the separator, three
+    // digits, the point and the `p` digits. So the bytes before them end with the other `p` digits of the group.
     let first = bytes.len() - 8;
     let high = number_before::<CALLER>(&bytes[..first], format, bytes.len() - 1 - place)?;
     let low = if place == first + 4 {

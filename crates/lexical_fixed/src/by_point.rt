@@ -1,5 +1,6 @@
-// Whole texts by their last point: short ones by words. Of others the bytes before the point are read as a whole number under the
-// integer part's format, which may have a separator, or rules on zeros and signs. A fault in them is that of the text.
+// Whole texts, read by their last point. Short ones are read by words. In others the bytes before the point are read as
+// an integer under the integer part's format, which may have a separator, or rules on zeros and signs. A fault in them
+// is that of the text.
 ghost use Rattle.std.specs.Prelude.{◌≡◌, ◌<◌, ◌≤◌, ◌^◌, IfSome, IsNone, IsTrue, None, Ok, false, length, true};
 ghost use Rattle.lexical_util.specs.Digit.{digit};
 ghost use Rattle.lexical_util.specs.Number.{HasSign, IntegerType, IsNumber, integer_type};
@@ -26,8 +27,8 @@ use lexical_util::error::Error;
 use lexical_util::num::Integer;
 use lexical_util::result::Result;
 
-// How many bytes stand behind the point that ends the integer part, 0 where there is no point. `None` says nothing of the text: no
-// point is in its place, or it is a letter, or the type is short.
+// How many bytes stand behind the point that ends the integer part, 0 where there is no point. `None` says nothing of
+// the text: no point is in its place, the point is a letter, or the type has fewer than 32 bits.
 #[inline(always)]
 fn count_behind_point<T: Integer>(text: &[u8], format: &FixedFormat) -> Option<usize>
     ensures parted { IfSome result (IsParted format.now text.now) }
@@ -40,7 +41,8 @@ fn count_behind_point<T: Integer>(text: &[u8], format: &FixedFormat) -> Option<u
     places_written(text, format)
 }
 
-// The number in units behind an integer part, where `count` digits behind its point are all of the text.
+// The number in units, for an integer part that is followed by a point and `count` digits alone, or by nothing if
+// `count` is 0.
 #[inline(always)]
 fn units_at_once<T: Integer>(text: &[u8], format: &FixedFormat, whole: T, count: usize) -> Option<T>
     requires bits { 32 ≤ T.TYPE.bits }
@@ -93,8 +95,8 @@ fn is_told_before(text: &[u8], format: &FixedFormat, error: Error) -> bool
     }
 }
 
-// The number in units of up to sixteen bytes: digits around a point with `count` of them behind it, which are seven at most. With
-// up to three there, those before the point may stand in groups of three.
+// The number in units of up to sixteen bytes: digits around a point, with `count` of them behind it, at most seven. If
+// there are at most three, the digits before the point may stand in groups of three.
 #[inline(always)]
 fn value_by_words<T: Integer, const CALLER: u8>(
     digits: &[u8],
@@ -156,7 +158,7 @@ fn number_of_cell(digits: &[u8], format: &FixedFormat, count: usize) -> Option<i
     value_by_words::<i64, { callers::CELL }>(digits, format, count, false)
 }
 
-// How many bytes stand behind the point: it is looked for first where all places stand behind it.
+// How many bytes stand behind the point. It is looked for first where it would have all places behind it.
 #[inline(always)]
 fn places_in_cell(text: &[u8], format: &FixedFormat) -> Option<usize>
     requires { 2 ≤ length text.now }
@@ -169,9 +171,10 @@ fn places_in_cell(text: &[u8], format: &FixedFormat) -> Option<usize>
     places_written(text, format)
 }
 
-/// The number that a whole text stands for in each type that has it, and whether a minus stands in front: for most texts of up to
-/// sixteen bytes behind that, digits around a point. Behind it stand all places, or fewer if the description takes that, and seven
-/// at most; with up to three, the digits before it may stand in groups of three. `None` says nothing of the text.
+/// The number that a whole text stands for, in each type that has it, and whether a minus stands in front. It reads
+/// most texts that are, behind an optional minus, up to sixteen bytes of digits around a point. All places stand behind
+/// the point, or fewer if the description takes that, and at most seven; if there are at most three, the digits before
+/// the point may stand in groups of three. `None` says nothing of the text.
 #[inline(always)]
 pub fn units_in_groups(text: &[u8], format: &FixedFormat) -> Option<(bool, u64)>
     requires valid { IsNone (fixed_fault format.now) }
@@ -219,7 +222,7 @@ fn read_by_point<T: Integer>(text: &[u8], format: &FixedFormat, count: usize) ->
     }
 }
 
-// What the whole text stands for. A text whose point isn't in its place costs a look more.
+// What the whole text stands for. A text whose point isn't in its place costs one more look.
 #[inline(always)]
 pub(crate) fn complete_by_point<T: Integer>(text: &[u8], format: &FixedFormat) -> Result<T>
     requires valid { IsNone (fixed_fault format.now) }

@@ -100,7 +100,8 @@ impl FixedFormat {
         }
     }
 
-    /// Whether few tests show that the description is valid: most have neither a separator nor a required sign.
+    /// Whether a few tests suffice to show that the description is valid: most have neither a separator nor a required
+    /// sign.
     ///
     /// `false` says nothing of the description.
     #[inline(always)]

@@ -1,5 +1,5 @@
-// The digits around a point as one number: of a short text, or of the last eight bytes of a longer one, a word is made, from which
-// the point is taken out.
+// The digits around a point as one number: a short text, or the last eight bytes of a longer one, is made a word, from
+// which the point is removed.
 ghost use Rattle.std.specs.Prelude.{◌≡◌, ◌+◌, ◌-◌, ◌*◌, ◌/◌, ◌%◌, ◌^◌, ◌<◌, ◌≤◌, IfSome, length, slice_range};
 ghost use Rattle.lexical_digits.specs.WrittenNumbers.{bytes_number};
 ghost use Rattle.lexical_fixed.specs.Quick.{IsJoined, without};
@@ -17,7 +17,7 @@ fn half_at(text: &[u8], at: usize) -> u32
     u32::from_le_bytes([t[0], t[1], t[2], t[3]])
 }
 
-// Four to eight bytes as a word: the last four, without those that are among the first four, stand behind these.
+// Four to eight bytes as a word: the first four, and behind them those of the last four that aren't among the first.
 #[inline(always)]
 fn word_of(text: &[u8]) -> u64
     requires some { 4 ≤ length text.now }
@@ -29,7 +29,7 @@ fn word_of(text: &[u8]) -> u64
     half_at(text, 0) as u64 + (last << 32)
 }
 
-// A word without the byte at a place: what stands behind that comes one byte nearer.
+// A word without the byte at a place: the bytes behind it move down by one.
 #[inline(always)]
 fn word_without(word: u64, place: usize) -> u64
     requires { place < 8 }
@@ -40,7 +40,7 @@ fn word_without(word: u64, place: usize) -> u64
     word - ((behind - (behind >> 8)) << shift)
 }
 
-// A word's `count` bytes behind digits 0. The word has no more bytes than these.
+// The `count` bytes of a word, moved to its end, with digits 0 in front of them. The word has to have no other bytes.
 #[inline(always)]
 fn behind_zeros(word: u64, count: usize) -> u64
     requires some { 1 ≤ count }
@@ -69,8 +69,8 @@ pub(crate) fn number_without(text: &[u8], place: usize) -> Option<u32>
     Some(parse_8digits(digits, 10) as u32)
 }
 
-// The numbers of the digits before the last eight of nine to sixteen bytes, and of the seven digits among these without the byte
-// at a place.
+// For nine to sixteen bytes, the number of the digits before the last eight, and the number of the other seven of the
+// last eight, without the byte at a place.
 #[inline(always)]
 pub(crate) fn numbers_without(text: &[u8], place: usize) -> Option<(u32, u32)>
     requires some { 9 ≤ length text.now }

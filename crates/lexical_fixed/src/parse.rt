@@ -38,7 +38,7 @@ fn number_with_digit<T: Integer>(text: &[u8], format: &NumberFormat) -> Result<(
     number_in_front::<T>(text, format)
 }
 
-// The integer part in front of a text, and the place behind it, for a text that `plain_part` has left.
+// The integer part in front of a text, and the place behind it, for a text that `plain_part` doesn't read.
 #[tactic(auto, unfolding(crate::specs::Grammar::integer_part))]
 #[inline(never)]
 fn part_by_format<T: Integer>(text: &[u8], format: &NumberFormat) -> Result<(T, usize)>
@@ -79,7 +79,8 @@ pub(crate) fn is_negative<T: Integer>(text: &[u8]) -> bool
     T::IS_SIGNED && text.first() == Some(&b'-')
 }
 
-// A fault of the integer part, for a whole text of this size.
+// A fault of the integer part, as that of a whole text of this size: `Empty` before the text's end becomes
+// `InvalidDigit`, since a byte stands there.
 fn whole_fault(size: usize, error: Error) -> Error
     ensures { result ≡ whole_fault size error }
 {
@@ -226,7 +227,7 @@ pub(crate) fn read_whole<T: Integer>(text: &[u8], format: &FixedFormat) -> Resul
     }
 }
 
-/// The number in front of the text and the place at which reading stops: best asked after `front_at_once`.
+/// The number in front of the text, and the place at which reading stops: best called after `front_at_once`.
 #[tactic(auto, unfolding(crate::specs::Grammar::partial_fixed))]
 #[inline(never)]
 pub fn partial_if_left<T: Integer>(text: &[u8], format: &FixedFormat) -> Result<(T, usize)>
@@ -239,7 +240,7 @@ pub fn partial_if_left<T: Integer>(text: &[u8], format: &FixedFormat) -> Result<
     }
 }
 
-/// The number that the whole text stands for: best asked after `value_if_short` and `value_if_fewer`.
+/// The number that the whole text stands for: best called after `value_if_short` and `value_if_fewer`.
 #[inline(always)]
 pub fn complete_if_long<T: Integer>(text: &[u8], format: &FixedFormat) -> Result<T>
     requires valid { IsNone (fixed_fault format.now) }
@@ -252,7 +253,7 @@ pub fn complete_if_long<T: Integer>(text: &[u8], format: &FixedFormat) -> Result
     }
 }
 
-/// The number that the whole text stands for: best asked after `value_if_short`.
+/// The number that the whole text stands for: best called after `value_if_short`.
 #[inline(always)]
 pub fn complete_if_not_short<T: Integer>(text: &[u8], format: &FixedFormat) -> Result<T>
     requires valid { IsNone (fixed_fault format.now) }

@@ -1,5 +1,5 @@
-// Whole texts of any length at once: digits around a point, with all places behind it or fewer where the description takes
-// that, or digits alone. `None` says nothing of the text.
+// The fast path for whole texts of any length: digits around a point, with all places behind it, or fewer where the
+// description takes that, or digits alone. `None` says nothing of the text.
 ghost use Rattle.std.specs.Prelude.{◌≡◌, ◌+◌, ◌≤◌, ℕ, List, IfSome, IsNone, IsTrue, Ok, false, length};
 ghost use Rattle.lexical_parse_integer.specs.Plain.{IsBehind, IsPlain};
 ghost use Rattle.lexical_fixed.specs.Grammar.{complete_fixed, is_negative};
@@ -42,7 +42,7 @@ pub(crate) fn places_written(digits: &[u8], format: &FixedFormat) -> Option<usiz
     Some(0)
 }
 
-// Where the bytes before the point end, which has `count` bytes behind it: 0 where there is no point.
+// Where the bytes before the point end, if it has `count` bytes behind it. If `count` is 0, there is no point.
 #[inline(always)]
 pub(crate) fn point_place(digits: &[u8], count: usize) -> usize
     requires { 1 ≤ count → count + 2 ≤ length digits.now }
@@ -74,7 +74,7 @@ fn value_as_written<T: Integer>(digits: &[u8], count: usize, is_negative: bool) 
     append_digits::<T>(whole, &digits[size - count..], is_negative)
 }
 
-// The number that the whole text stands for. It has a reader for each range of lengths.
+// The number that the whole text stands for. Each range of lengths has a reader of its own.
 #[inline(always)]
 pub(crate) fn whole_at_once<T: Integer>(text: &[u8], format: &FixedFormat) -> Option<T>
     requires valid { IsNone (fixed_fault format.now) }

@@ -1,9 +1,8 @@
 //! The parsers in two halves, under a valid description: for this crate, tables and calls from C.
 //!
-//! The first half reads most texts at once, and its `None` says nothing of a text. The second half
-//! has the answer for what the first one left. Up to fifteen digits around a point are read by one
-//! word or two, and a longer text from its point. Fronts are read in one walk, where the integer
-//! part is digits alone and the fraction is short.
+//! The first half is the fast path. It reads most texts, and its `None` says nothing of a text. The second half has the
+//! answer for what the first one left. Up to fifteen digits around a point are read as one word or two, and a longer
+//! text from its point. Fronts are read in one pass, where the integer part is digits alone and the fraction is short.
 ghost use Rattle.std.specs.Prelude.{◌≡◌, ◌==◌, ◌≤◌, ◌<◌, ◌+◌, ◌^◌, if◌then◌else◌, IfSome, IsNone, Ok, length, pos, true};
 ghost use Rattle.lexical_util.specs.Number.{HasSign, is_number, mul_add};
 ghost use Rattle.lexical_parse_integer.specs.Answer.{with_place};
@@ -25,8 +24,8 @@ use lexical_parse_integer::quick::front_if_plain;
 use lexical_parse_integer::stops_after_digit;
 use lexical_util::num::Integer;
 
-/// Who calls [`value_if_short`], and the readers of digits below it. Each caller has a function of its own, which the
-/// compiler then inlines: of a large one with several callers it makes a call.
+/// Who calls [`value_if_short`], and the readers of digits below it. So each caller has an instance of its own, which
+/// the compiler inlines: it wouldn't inline a large function that has several callers.
 pub mod callers {
     /// One text under any description.
     pub const TEXT: u8 = 0;

@@ -1,4 +1,5 @@
-// The short way: a whole text of up to sixteen bytes, digits around a point or alone. `None` says nothing of the text.
+// The fast path for whole texts of up to sixteen bytes, digits around a point or alone. `None` says nothing of the
+// text.
 ghost use Rattle.std.specs.Prelude.{◌≡◌, ◌≢◌, ◌+◌, ◌-◌, ◌<◌, ◌≤◌, IfSome, IsNone, IsTrue, Ok, length, slice_index, take};
 ghost use Rattle.lexical_parse_integer.specs.Plain.{IsBehind};
 ghost use Rattle.lexical_fixed.specs.Grammar.{complete_fixed, is_negative};
@@ -14,8 +15,8 @@ use lexical_parse_integer::laws::grammar::front_digits;
 use lexical_parse_integer::quick::is_decimal;
 use lexical_util::num::Integer;
 
-/// Whether a zero stands in front of another byte than the point: such digits are a fault where the integer part's format forbids
-/// leading zeros.
+/// Whether the first byte is a zero that another byte than the point follows: then the digits are a fault where the
+/// integer part's format forbids leading zeros.
 #[inline(always)]
 pub fn begins_with_zero(digits: &[u8], point: u8) -> bool
     ensures { result ≡ begins_with_zero point digits.now }
@@ -118,8 +119,8 @@ pub(crate) fn point_before(digits: &[u8], format: &FixedFormat, count: usize) ->
     Some(place)
 }
 
-// How many bytes stand behind the point, if fewer than there are places may, which are nine at most: 0 is a text without a point.
-// It doesn't look for a point with all places behind it.
+// How many bytes stand behind the point, if there are at most nine places, and fewer bytes may stand there: 0 is a text
+// without a point. It doesn't look for a point with all places behind it.
 #[inline(always)]
 fn count_behind(digits: &[u8], format: &FixedFormat) -> Option<usize>
     ensures parted { IfSome result (λ count. IsParted format.now digits.now count) }
@@ -139,8 +140,8 @@ fn count_behind(digits: &[u8], format: &FixedFormat) -> Option<usize>
     Some(0)
 }
 
-// The number of the digits before and behind the middle one of three bytes. By itself, since a call of a reader of more digits would
-// cost each text of `value_if_short` registers.
+// The number of the first and the last of three bytes, if they are digits. Written out here, since a call to a reader
+// of more digits would cost every text of `value_if_short` registers.
 #[inline(always)]
 fn number_of_3(digits: &[u8]) -> Option<u32>
     requires three { length digits.now ≡ 3 }
@@ -242,8 +243,9 @@ pub(crate) fn value_filled<T: Integer>(
     append_number::<T>(written, 0, zeros, is_negative)
 }
 
-/// The number that the whole text stands for, for most texts of nine to sixteen bytes behind a minus, with fewer digits behind the
-/// point than there are places, or without a point, if the description takes that. `None` says nothing of the text.
+/// The number that the whole text stands for. It reads most texts that have, behind an optional minus, nine to sixteen
+/// bytes, and fewer digits behind the point than there are places, or no point, if the description takes that. `None`
+/// says nothing of the text.
 #[inline(always)]
 pub fn value_if_fewer<T: Integer>(text: &[u8], format: &FixedFormat) -> Option<T>
     requires valid { IsNone (fixed_fault format.now) }
@@ -260,9 +262,9 @@ pub fn value_if_fewer<T: Integer>(text: &[u8], format: &FixedFormat) -> Option<T
     value_filled::<T>(digits, format, is_negative)
 }
 
-/// The number that the whole text stands for, for most texts of up to sixteen bytes behind a minus: digits around a point with all
-/// places, which are seven at most. If the description takes fewer, up to eight bytes may have fewer, or no point. `None` says
-/// nothing of the text.
+/// The number that the whole text stands for. It reads most texts that are, behind an optional minus, up to sixteen
+/// bytes of digits around a point, with all places, at most seven. If the description takes fewer places, texts of up
+/// to eight bytes may have fewer, or no point. `None` says nothing of the text.
 ///
 /// `CALLER` is one of [`callers`](crate::quick::callers), and changes no answer.
 #[inline(always)]

@@ -1,11 +1,11 @@
 //! Ready formats: the integers of programming languages, of assemblers and of data formats.
 //!
 //! Each is made by setters of a [`NumberFormatBuilder`], so a caller may copy the lines and change one. A format says
-//! what it can of a language: its radixes, its separators, its zeros. What it can't say is told with each function, and
-//! with test vectors in docs/FORMATS.md.
+//! what it can of a language: its radixes, its separators, its zeros. What it can't say is documented with each
+//! function, and shown by test vectors in docs/FORMATS.md.
 //!
-//! In most languages a sign is an operator and no part of a literal. There a plus is refused, and a minus is too where
-//! the type is unsigned; a signed type reads it.
+//! In most languages a sign is an operator and no part of a literal. The formats of these languages refuse a plus. A
+//! minus is refused where the type is unsigned, and read where it is signed.
 #![tactic(auto)]
 
 ghost use Rattle.std.specs.Prelude.{◌≡◌};
@@ -40,7 +40,7 @@ fn with_prefixes() -> NumberFormatBuilder
     without_plus().literal_prefixes(true)
 }
 
-// Those with prefixes, with this separator between digits, one at a time.
+// Those of `with_prefixes`, and with this separator between digits, one at a time.
 fn by_separator(separator: u8) -> NumberFormatBuilder
     ensures { result ≡ by_separator separator }
 {
@@ -49,7 +49,7 @@ fn by_separator(separator: u8) -> NumberFormatBuilder
         .integer_internal_digit_separator(true)
 }
 
-// Those with prefixes, with `_` among and after the digits, as many as one likes.
+// Those of `with_prefixes`, and with any number of `_` among and after the digits.
 fn any_groups() -> NumberFormatBuilder
     ensures { result ≡ any_groups }
 {

@@ -42,7 +42,7 @@ fn named_formats() -> [(&'static str, NumberFormat); 27]
     ]
 }
 
-// Whether the names are alike.
+// Whether the names are equal.
 fn is_name(known: &str, name: &[u8]) -> bool
     ensures { result ≡ bytes_eq name.now known.now }
 {

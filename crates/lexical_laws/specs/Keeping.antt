@@ -60,7 +60,7 @@ pub record AdmitsMore (strict loose : Format) : Type 0 where
 
 -- ---- faults
 
--- no text with the same bytes up to and with a place is read
+-- no text with the same bytes up to and including a place has a value
 abbrev pub IsDead : Format → IntegerType → List ℕ → ℕ → Type 0
 IsDead format type text place =
     (other : List ℕ) (value : ℤ) → SameFront (place + 1) text other
@@ -83,8 +83,8 @@ pub record IsForeign (format : Format) (byte : ℕ) : Type 0 where
 abbrev pub moved : ℕ → TokenView → TokenView
 moved count token = record token { start = count + token.start; stop = count + token.stop }
 
--- A byte parts tokens: it is skipped and no part of a number, and a number that lacks its end is read before it as at
--- the end of a source, since there is no prefix, or a digit is asked for and there is a separator.
+-- A byte separates tokens: it is skipped and no part of a number, and in front of it a number that lacks its end is
+-- read as at the end of a source, since there is no prefix, or a digit is asked for and there is a separator.
 pub record PartsTokens (format : Format) (byte : ℕ) : Type 0 where
   pub skipped : is_skipped byte ≡ true
   pub foreign : IsForeign format byte
@@ -103,7 +103,7 @@ without_separators format text = filter (λ byte. not (is_separator format byte)
 abbrev pub AreAlike : List ℕ → List ℕ → Type 0
 AreAlike text other = map lower_case text ≡ map lower_case other
 
--- A format looks at no letter case: neither its prefix nor its suffix does, and its separator is no letter.
+-- A format ignores letter case: its prefix and its suffix do, and its separator is no letter.
 pub record IgnoresCase (format : Format) : Type 0 where
   pub prefix : format.case_sensitive_base_prefix ≡ false
   pub suffix : format.case_sensitive_base_suffix ≡ false

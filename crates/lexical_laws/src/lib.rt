@@ -1,4 +1,4 @@
-//! Laws of the grammar that stand above its definitions: what an integer is, and what keeps a value.
+//! Laws that follow from the definitions of the grammar: what an integer is, and what keeps a value.
 //!
 //! A law is a call whose contract says what always holds. A proof that needs one calls it and has its clauses.
 #![tactic(auto)]
@@ -29,8 +29,8 @@ pub fn integers()
         → (complete format type text ≡ Ok value) ↔ IsInteger format type text value }
 {}
 
-/// Types agree on a text: a value that is read as one type is read as each type that has it, and answered by a range
-/// fault in one that hasn't. Only a signed type reads a minus, so where the first is signed, the other has to be.
+/// Types agree on a text: a value that is read as one type is read as each type that has it, and is a range fault in a
+/// type that doesn't. Only a signed type reads a minus, so where the first type is signed, the other has to be too.
 ///
 /// `-128` is -128 as `i8` and as `i64`. `300` is 300 as `u16` and `Overflow(2)` as `u8`, and `-0` is 0 as `i8` alone.
 pub fn types()
@@ -95,13 +95,13 @@ pub fn dead_places()
     complete_by_partial();
 }
 
-/// What stands behind a byte that is no part of a number counts for nothing: the front is read as if the text ended
-/// before the byte.
+/// What stands behind a byte that is no part of a number has no effect: the front is read as if the text ended before
+/// the byte.
 ///
-/// `12;3` is read as `12` is. A text that lacks its end may be read otherwise: with the prefix `x`
-/// and no separator, `0x` is `Empty(2)`, but of `0x;` the front `0x` is 0. So either the text isn't
-/// such a one (`read`; `number` where a digit is asked for), or the format asks for a digit and
-/// has a separator (`asked`), or it has no prefix and the text begins with a digit (`digit`).
+/// `12;3` is read as `12` is. A text that lacks its end may be read otherwise: with the prefix `x` and no separator,
+/// `0x` is `Empty(2)`, but of `0x;` the front `0x` is 0. So one of three has to hold: the text doesn't lack its end
+/// (`read`, and `number` for the number in front), the format asks for a digit and has a separator (`asked`), or it has
+/// no prefix and the text begins with a digit (`digit`).
 pub fn foreign_bytes()
     ensures read { (format : Format) (type : IntegerType) (text rest : List ℕ) (byte : ℕ)
         → IsNone (fault format) → IsForeign format byte
@@ -125,8 +125,9 @@ pub fn foreign_bytes()
 /// If a line feed joins two sources, the tokens of the whole are those of the first and then those
 /// of the second, moved by the length of the first plus 1. So a source may be read line by line.
 ///
-/// Under a format of your own the byte has to part tokens. With the prefix `x` and no separator no
-/// byte does: `0x` is the fault `Empty(2)`, but a line feed behind it makes it the number 0.
+/// Under a format of your own, the byte between the sources has to be one that separates tokens (`PartsTokens`). With
+/// the prefix `x` and no separator, none does: `0x` is the fault `Empty(2)`, but a line feed behind it makes it the
+/// number 0.
 pub fn joined_sources()
     ensures lines { (first second : List ℕ)
         → tokens (first ++ line_feed ∷ second)
@@ -139,11 +140,11 @@ pub fn joined_sources()
     front_end();
 }
 
-/// Separators count for nothing: a text has the same value without them, under a valid format that asks for a digit and
-/// has no octal zeros.
+/// Separators don't change a value: a text has the same value without them, under a valid format that asks for a digit
+/// and has no octal zeros.
 ///
-/// Otherwise a separator may part what would be read together: under octal zeros `-_09` is -9, and
-/// `-09` is a fault. And where no digit is asked for, `0x_` may be 0, but `0x` is `Empty(2)`.
+/// Otherwise a separator may keep apart what would be read together: under octal zeros `-_09` is -9, and `-09` is a
+/// fault. And where no digit is asked for, `0x_` may be 0, but `0x` is `Empty(2)`.
 pub fn separators()
     ensures { (format : Format) (type : IntegerType) (text : List ℕ) (value : ℤ)
         → IsNone (fault format) → format.literal_octal_zero ≡ false
@@ -163,9 +164,8 @@ pub fn json_texts()
     numerals();
 }
 
-/// Letter case counts for nothing: two texts that differ only in letter case have the same value,
-/// under a valid format whose prefix and suffix ignore letter case, and whose separator is no
-/// letter.
+/// Letter case doesn't change a value: two texts that differ only in letter case have the same value, under a valid
+/// format whose prefix and suffix ignore letter case, and whose separator is no letter.
 ///
 /// In radix 16 with the prefix `x`, `0xFf` and `0XfF` are both 255. With the separator `x`, `1x0` may be 10, but `1X0`
 /// is no integer.

@@ -18,7 +18,7 @@ number_between radix text from to =
     positional_value radix
     (map (λ place. unwrap_or (digit_at radix text place) 0) (digits_between radix text from to))
 
--- where the digits from a start to a place write one number, those from there to another place write the other
+-- if the digits from any start to `from` write `before`, those from that start to `to` write `number`
 abbrev pub WritesOn : ℕ → List ℕ → ℕ → ℕ → ℕ → ℕ → Type 0
 WritesOn radix text before from number to =
     (start : ℕ) → start ≤ from → before ≡ number_between radix text start from
@@ -61,7 +61,7 @@ AreGroups many separator radix text start stop =
     (place : ℕ) → start ≤ place → place < stop → has_digit radix text place ≡ false
     → Parts many separator radix text start place
 
--- Such groups, one digit at least, and the number that they write. The last of them is a digit, unless the stop is one.
+-- Such groups, at least one digit, and the number that they write. They end with a digit, or stop in front of one.
 pub record WritesGroups (many : Bool) (separator radix : ℕ) (text : List ℕ) (start number stop : ℕ)
     : Type 0 where
   pub some : start < stop
@@ -70,8 +70,8 @@ pub record WritesGroups (many : Bool) (separator radix : ℕ) (text : List ℕ) 
   pub writes : number ≡ number_between radix text start stop
   pub last : has_digit radix text stop ≡ false → has_digit radix text (stop - 1) ≡ true
 
--- What stands before a numeral of a radix: no sign, and a prefix or none. Without one no rule for zeros in front goes
--- against it. No separator is a digit, and no suffix stands behind it.
+-- What stands before a numeral of a radix: no sign, and an optional prefix. Without a prefix, no rule forbids a zero in
+-- front, if there is one. The separator is no digit, and the format has no suffix.
 pub record StartsAt (format : Format) (is_prefixed : Bool) (radix : ℕ) (text : List ℕ) (start : ℕ)
     : Type 0 where
   pub head : head_of format (integer_type 128 false) text

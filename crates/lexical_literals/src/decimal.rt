@@ -1,5 +1,5 @@
-// Decimal digits: what most numbers of a source are. They are read as the standard format reads them, which is soon done,
-// where the format can have no other answer.
+// Decimal digits, which most numbers of a source are. They are read under the standard format, which is faster,
+// wherever the source's own format has the same answer.
 ghost use Rattle.std.specs.Prelude.{◌≡◌, ◌<◌, IsNone, IsTrue, Ok, Some, false, is_some, length, pos, slice_index, true, None};
 ghost use Rattle.lexical_util.specs.Ascii.{digit_zero};
 ghost use Rattle.lexical_util.specs.Digit.{digit};
@@ -59,8 +59,8 @@ pub(crate) fn seems_prefixed(text: &[u8]) -> bool
     text[1] > b'9'
 }
 
-// The number of the digits that a text without a prefix begins with, and how many bytes it has, or 0 where it has no
-// room in 64 bits. Out of line, so that words and blanks don't pay for it.
+// The number of the digits that a text without a prefix begins with, and how many bytes it has, or 0 bytes where it
+// doesn't fit in 64 bits. Out of line, so that words and blanks don't pay for it.
 #[inline(never)]
 pub(crate) fn front_of_decimal(text: &[u8], format: &NumberFormat) -> (u64, usize)
     requires first { is_some (digit 10 (slice_index text.now 0)) ≡ true }

@@ -1,7 +1,7 @@
-// Numbers with separators between their digits, or behind `0x`, `0o` or `0b`: they are read in one pass, or in two where more
-// separators than one stand between two digits.
+// Numbers with separators between their digits, or behind `0x`, `0o` or `0b`. They are read in one pass, or in two
+// where two digits have several separators between them.
 //
-// What has none of the digits that it begins with, or ends in such a run, goes to the reader for all formats.
+// A number without a digit behind its prefix, or with a run of separators at its end, goes to another reader.
 ghost use Rattle.std.specs.Prelude.{◌≡◌, ◌≢◌, ◌+◌, ◌-◌, ◌*◌, ◌<◌, ◌≤◌, ℕ, Bool, IfSome, IsNone, IsTrue, None, Ok, Some, false, is_some, length, nat_lt, pos, slice_get, slice_index, true};
 ghost use Rattle.lexical_util.specs.Ascii.{digit_zero};
 ghost use Rattle.lexical_util.specs.Digit.{digit};
@@ -50,7 +50,7 @@ pub(crate) fn separator_at(text: &[u8], place: usize, format: &NumberFormat) -> 
     }
 }
 
-// The number with one digit more, where 64 bits have room for it. Most numbers are far from the greatest.
+// The number with one more digit, where it fits in 64 bits. Most numbers are far from the greatest.
 #[inline(always)]
 fn with_digit(number: u64, radix: u32, digit: u32) -> Option<u64>
     requires least { 2 ≤ radix }
@@ -63,8 +63,8 @@ fn with_digit(number: u64, radix: u32, digit: u32) -> Option<u64>
     number.checked_mul(radix as u64)?.checked_add(digit as u64)
 }
 
-// The number of digits in a row from a place on, behind those of another number, and where the row ends, or where a
-// number has no room for its next digit.
+// The number `before` with the digits in a row from a place on appended, and where the row ends, or where the number
+// has no room for the next digit.
 #[inline(always)]
 fn read_row(text: &[u8], radix: u32, before: u64, from: usize) -> (u64, usize)
     requires least { 2 ≤ radix }
@@ -103,8 +103,8 @@ fn parts_digits(text: &[u8], separator: u8, radix: u32, place: usize) -> bool
     place < text.len() && text[place] == separator && has_digit(text, radix, place + 1)
 }
 
-// The number of the digits from a start on, with a separator between two of them or none, and where they end: the first
-// row of them is read.
+// The number of the digits from a start on, with at most one separator between two of them, and where they end. The
+// first row of them has been read.
 #[inline(always)]
 fn read_groups(
     text: &[u8],
@@ -166,8 +166,8 @@ fn behind_run(text: &[u8], separator: u8, radix: u32, place: usize) -> usize
     }
 }
 
-// The number of the digits from a start on, with a run of separators between two of them or none, and where they end: the first
-// row of them is read.
+// The number of the digits from a start on, with at most one run of separators between two of them, and where they end.
+// The first row of them has been read.
 #[inline(always)]
 fn read_runs(
     text: &[u8],
@@ -208,8 +208,8 @@ fn has_run(text: &[u8], separator: u8, place: usize) -> bool
     place + 1 < text.len() && text[place + 1] == separator
 }
 
-// The number of groups and where they end, with a separator behind the last of them where the format has those, or 0 bytes
-// where it has no room in 64 bits.
+// The number of groups, and where they end, a trailing separator included where the format allows one; or 0 bytes where
+// the number doesn't fit in 64 bits.
 #[inline(always)]
 fn number_before(
     text: &[u8],
@@ -249,8 +249,8 @@ fn number_before(
     (number, stop)
 }
 
-// The number of the digits from a start on, read from there again, and where they end, with runs of separators between them
-// where the format has those. Out of line: few numbers have a run.
+// The number of the digits from a start on, read from there again, and where they end, with runs of separators between
+// them where the format allows these. Out of line: few numbers have a run.
 #[inline(never)]
 fn number_of_runs(text: &[u8], format: &NumberFormat, radix: u32, start: usize) -> (u64, usize)
     requires least { 2 ≤ radix }
@@ -279,8 +279,8 @@ fn number_of_runs(text: &[u8], format: &NumberFormat, radix: u32, start: usize) 
     number_before(text, format, separator, radix, start, number, stop)
 }
 
-// The number of such digits and where they end, with a separator behind the last of them where the format has those, or 0
-// bytes where it has no room in 64 bits. A run of separators is left to another reader.
+// The number of groups whose first row has been read, and where they end, a trailing separator included where the
+// format allows one; or 0 bytes where the number doesn't fit in 64 bits. A run of separators goes to another reader.
 #[inline(always)]
 fn number_of_groups(
     text: &[u8],
@@ -310,7 +310,7 @@ fn number_of_groups(
     number_before(text, format, separator, radix, start, number, stop)
 }
 
-// The number of decimal digits in front, behind whose first row a separator stands. Out of line: most numbers have no group.
+// The number of the decimal digits in front, if a separator follows their first row. Out of line: groups are rare.
 #[inline(never)]
 pub(crate) fn decimal_groups(
     text: &[u8],
@@ -332,8 +332,8 @@ pub(crate) fn decimal_groups(
     number_of_groups(text, format, separator, 10, 0, first, behind)
 }
 
-// The number behind a prefix that puts the radix, and where it ends, or 0 bytes where it has no room in 64 bits, or no digit
-// under a format with a separator: most such formats have a fault there.
+// The number behind a prefix that chooses the radix, and where it ends; or 0 bytes where it doesn't fit in 64 bits, or
+// has no digit and no separator under a format with a separator: most such formats have a fault there.
 #[inline(always)]
 fn number_behind_prefix(text: &[u8], format: &NumberFormat, radix: u32) -> (u64, usize)
     requires least { 2 ≤ radix }
@@ -361,7 +361,7 @@ fn number_behind_prefix(text: &[u8], format: &NumberFormat, radix: u32) -> (u64,
     }
 }
 
-// The small letter that stands for the same radix as a byte, where case may matter or not.
+// The small letter of the prefix that a byte stands for, where case matters if `exact`.
 #[inline(always)]
 #[tactic(auto, using(crate::proofs::GroupedFronts::same_letter, crate::proofs::GroupedFronts::same_byte, crate::proofs::GroupedFronts::same_small))]
 fn letter_of_prefix(byte: u8, exact: bool) -> u8
@@ -374,7 +374,7 @@ fn letter_of_prefix(byte: u8, exact: bool) -> u8
     }
 }
 
-// The number that a text begins with whose first byte is a zero in front of a letter. Out of line: most numbers have no prefix.
+// The number in front of a text that begins with a zero and a letter. Out of line: most numbers have no prefix.
 #[inline(never)]
 pub(crate) fn front_behind_zero(text: &[u8], format: &NumberFormat) -> (u64, usize)
     requires valid { IsNone (fault format.now) }

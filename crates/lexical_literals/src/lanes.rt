@@ -1,4 +1,5 @@
-// How many of sixteen bytes stand before the first that is none of a word, or that isn't skipped. All are looked up at once.
+// How many of sixteen bytes stand before the first that isn't one of a word, or isn't skipped. All are looked up at
+// once.
 //
 // A byte has two halves of four bits, and a table for each. It is of the kind where both tables have a bit in common:
 //   1 tab, line feed, carriage return    2 space    4 digits    8 A to O, a to o    16 P to Z, _    32 p to z

@@ -106,8 +106,8 @@ fn number(text: &[u8], format: &NumberFormat, decimal: bool) -> (Kind, usize)
     wide_number(text, format)
 }
 
-// The number of 64 bits that a text begins with, as most are, and 0 bytes where that isn't sure. Each text is read by one
-// reader: what that one leaves has more bits, or a fault.
+// The number that a text begins with, if it fits in 64 bits, as most do, and how many bytes it has; 0 bytes where this
+// isn't sure. Each text has one reader: what that one doesn't read has more bits, or a fault.
 #[inline(always)]
 fn number_if_short(text: &[u8], format: &NumberFormat, decimal: bool) -> (u64, usize)
     requires first { is_some (digit format.now.mantissa_radix (slice_index text.now 0)) ≡ true }
@@ -125,7 +125,8 @@ fn number_if_short(text: &[u8], format: &NumberFormat, decimal: bool) -> (u64, u
     front_of_decimal(text, format)
 }
 
-// Such a number under any format: out of line, to keep plain numbers small. A separator is copied, so that it stays in a register.
+// Such a number under any format. Out of line, to keep the reader of plain numbers small. A format with a separator is
+// copied, so that the separator stays in a register.
 #[inline(never)]
 fn punctuated_number(text: &[u8], format: &NumberFormat) -> (u64, usize)
     requires valid { IsNone (fault format.now) }

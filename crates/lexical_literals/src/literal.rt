@@ -21,12 +21,12 @@ pub struct Literal {
 /// The literal that a text begins with: the number in front of it under a format, and the suffix, which is all ASCII
 /// letters, `0` to `9` and `_` that follow.
 ///
-/// Under `rust` of `lexical_formats`, `1_000i64;` is 1000, its number ends at 5, and its suffix is `i64`. A letter that is
-/// a digit of the number is none of the suffix: `0xFFu` ends with `u`, and `0xFFf` with nothing. Which suffixes a
-/// language has is for the caller to ask: `1e5` is 1 with the suffix `e5`, and `0b102` is 2 with the suffix `2`. What
-/// follows a literal too: behind the 1 of `1.5` stands a point.
+/// Under `rust` of `lexical_formats`, `1_000i64;` is 1000, its number ends at 5, and its suffix is `i64`. A letter that
+/// is a digit of the number is no part of the suffix: `0xFFu` has the suffix `u`, and `0xFFf` has none. The caller has
+/// to check whether the language has the suffix: `1e5` is 1 with the suffix `e5`, and `0b102` is 2 with the suffix `2`.
+/// It has to check what follows a literal too: behind the 1 of `1.5` stands a point.
 ///
-/// Faults are those of the number in front as `u128`: `Overflow` where it is too great, `Empty` where no digit stands.
+/// Faults are those of the number in front as a `u128`: `Overflow` if it is too great, `Empty` if it has no digit.
 pub fn literal_in_front(text: &[u8], format: &NumberFormat) -> Result<Literal>
     ensures literal { result ≡ literal_in_front_if_valid format.now text.now }
     ensures order { IfOk result (λ found. found.number_stop ≤ found.stop) }

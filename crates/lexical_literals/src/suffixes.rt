@@ -19,8 +19,7 @@ pub enum IntegerKind {
     Isize,
 }
 
-/// An entry of a table of suffixes. [`Suffix`] is one; a table of another kind has them too, if its entries have these
-/// two.
+/// An entry of a table of suffixes. [`Suffix`] is one. Another type may be one too, if it has a suffix and a kind.
 pub trait SuffixEntry {
     // Its suffix and its kind.
     ghost suffix: { Self → SuffixView };

@@ -38,8 +38,8 @@ pub struct TypedLiteral {
 /// Why a text doesn't begin with a literal of a table. Places count the text's bytes from 0.
 #[derive(Debug, PartialEq, Eq, Copy, Clone)]
 pub enum LiteralError {
-    /// The number's fault, which has its place, or the format's, which has none. `InvalidDigit` is a decimal digit
-    /// directly behind the number, that its radix lacks.
+    /// The number's fault, which has its place, or the format's, which has none. `InvalidDigit` is at a decimal digit
+    /// directly behind the number that isn't one of its radix.
     Number(Error),
     /// No entry of the table has the suffix, which begins at this place.
     UnknownSuffix(usize),
@@ -102,7 +102,7 @@ fn stop_of_number(text: &[u8], format: &NumberFormat) -> usize
     cursor.cursor()
 }
 
-// The number in front of a text that has a fault as one of 128 bits: it may have no room there alone.
+// The number in front of a text, if its fault as a `u128` is only that it is too great. Any other fault is returned.
 #[inline(never)]
 fn front_at_fault(text: &[u8], format: &NumberFormat, error: Error) -> Result<Front, Error>
     requires { Err error ≡ wide_number format.now text.now }
@@ -234,9 +234,9 @@ fn suffix_at(text: &[u8], stop: usize) -> &[u8]
 /// 4. `Number(Overflow)`, where the number is greater than the greatest of its kind, at the digit with which it passes
 ///    that: 2 in `300u8`, and in `128i8`.
 ///
-/// A suffix is matched byte for byte, and of two entries with one suffix the first is taken. A literal has no sign but a
-/// `+` that the format allows, so `-5` is `Number(Empty(0))`. Where a minus in front of a literal widens its range, as in
-/// `-128i8`, let the entry name the unsigned kind, and judge the range where the sign is known.
+/// A suffix is matched byte for byte, and of two entries with one suffix the first is taken. A literal has no sign but
+/// a `+` that the format allows, so `-5` is `Number(Empty(0))`. If a minus in front of a literal widens its range, as
+/// in `-128i8`, let the entry name the unsigned kind, and check the range once the sign is known.
 pub fn typed_literal_in_front<S: SuffixEntry>(
     text: &[u8],
     format: &NumberFormat,

@@ -119,7 +119,7 @@ IsSettledAt size place (Err error) = ⊥
 abbrev pub SameFront : ℕ → List ℕ → List ℕ → Type 0
 SameFront count text other = take count text ≡ take count other
 
--- an answer that is settled at a place is that of each text with the same bytes up to and with it
+-- an answer that is settled at a place is that of each text with the same bytes up to and including it
 abbrev pub IsLocal : Format → IntegerType → Type 0
 IsLocal format type =
     (text other : List ℕ) (place : ℕ) → IsSettledAt (length text) place (partial format type text)

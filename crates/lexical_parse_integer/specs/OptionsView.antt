@@ -1,7 +1,7 @@
 -- Options, as contracts see them.
 use Rattle.std.specs.Prelude.{Bool}
 
--- What a parser is told of its input.
+-- The parser's options, which are hints about its input.
 pub record OptionsView : Type 0 where
   -- whether numbers are expected to have few digits, so that digits are taken one at a time
   pub no_multi_digit : Bool

@@ -76,8 +76,8 @@ pub record LooksAhead (old new : CursorView) : Type 0 where
   pub count : new.digits ≤ digit_count (numeral_of old)
   pub one : IsNone old.format.digit_separator → new.digits ≤ 1
 
--- there is no zero too many in front, and a value is that of the digits read so far: without a
--- separator these are none, or all, which are one at most
+-- no zero in front is at fault, and a value is that of the digits read so far: without a separator these are none, or
+-- all, which are one at most
 pub record ReadsFirst (type : IntegerType) (is_negative radix_chosen : Bool) (old new : CursorView)
     (value : ℤ) : Type 0 where
   pub reads : Reads type is_negative (numeral_of old) new.digits value
@@ -103,7 +103,7 @@ pub record ReadsAll (type : IntegerType) (is_negative : Bool) (old new : CursorV
   pub at_end : new.position ≡ (numeral_of old).ends
   pub all : new.digits ≡ digit_count (numeral_of old)
 
--- all digits are read, and there is no zero too many in front
+-- all digits are read, and no zero in front is at fault
 pub record ReadsNumeral (type : IntegerType) (is_negative radix_chosen : Bool)
     (old new : CursorView) (value : ℤ) : Type 0 where
   pub no_zeros : zero_fault old.format radix_chosen (numeral_of old) ≡ None

@@ -91,7 +91,7 @@ pub(crate) fn front_if_valid<T: Integer>(bytes: &[u8], format: &NumberFormat) ->
 
 // ---- under the standard format
 
-// The partial answer under the standard format: the compiler knows the format in it, which callers then needn't make.
+// The partial answer under the standard format. The compiler knows the format here, and callers needn't build it.
 #[inline(never)]
 fn standard_partial<T: Integer>(bytes: &[u8]) -> Result<(T, usize)>
     ensures { view_of (with_place T.number) result ≡ partial standard T.TYPE bytes.now }

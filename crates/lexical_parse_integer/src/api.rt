@@ -40,7 +40,7 @@ pub trait FromLexical: Integer {
 
 /// An integer type that is read from bytes under a format.
 pub trait FromLexicalWithOptions: FromLexical {
-    /// What the parser is told of its input.
+    /// The parser's options, which are hints about its input.
     type Options: ParseOptions;
 
     /// The integer that the whole text stands for under a format, or the fault of the first rule that the format

@@ -71,7 +71,7 @@ impl<'a> Model for Cursor<'a> {
 }
 
 impl<'a> Cursor<'a> {
-    /// A cursor at the text's front: nothing is read.
+    /// A cursor at the text's front: nothing has been read.
     ///
     /// The format has to be valid; `NumberFormat::is_valid` is the test.
     #[inline(always)]
@@ -314,7 +314,7 @@ impl<'a> Cursor<'a> {
         }
     }
 
-    // Takes the next digit, under clauses that take no fact on the cursor apart: for the proofs of loops.
+    // Takes the next digit. Its clauses keep what is true of the cursor folded, for the proofs of loops.
     #[inline(always)]
     pub(crate) fn read_digit(&mut self) -> Option<u32>
         requires is_open { self.old.closed ≡ false }

@@ -47,12 +47,12 @@ pub fn complete_and_partial<T: Integer>(
     (whole, front)
 }
 
-/// The partial answers of two texts: they are equal where the first is settled at a place and the
-/// second has the same bytes up to and with that place.
+/// The partial answers of two texts: they are equal where the first is settled at a place and the second has the same
+/// bytes up to and including that place.
 ///
-/// An answer is settled at a place where the front ends there, before the text does, or where the
-/// value leaves the type there. The format has no separator byte: with one, later bytes may decide
-/// whether a run of separators passes.
+/// An answer is settled at a place where the front ends there, before the text does, or where the value leaves the type
+/// there. The format has to have no separator byte: with one, later bytes may decide whether a run of separators
+/// passes.
 ///
 /// Lean on it to cut an input after the byte at which a parse stopped, or to parse before all of
 /// it has come: no byte after that one changes the answer. A front that is all of the text isn't

@@ -42,8 +42,8 @@ fn has_digit_in<T: Integer>(bytes: &[u8], format: &NumberFormat) -> bool
     }
 }
 
-// Whether the numeral has a digit under a format with a separator: out of line, since few formats have one, and a look
-// behind separators needs a stack.
+// Whether the numeral of the text has a digit, under a format with a separator. Out of line, since few formats have
+// one, and a look behind separators needs a stack.
 #[inline(never)]
 fn has_digit_among<T: Integer>(bytes: &[u8], format: &NumberFormat) -> bool
     requires valid { IsNone (fault format.now) }

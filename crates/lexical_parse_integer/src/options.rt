@@ -1,4 +1,4 @@
-//! Options of the parser: what it is told of its input.
+//! Options of the parser, which are hints about its input.
 ghost use Rattle.std.specs.Prelude.{◌≡◌, true, false, Ok, IsTrue};
 
 use lexical_util::options::ParseOptions;

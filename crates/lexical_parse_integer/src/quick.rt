@@ -1,7 +1,7 @@
-//! The parsers in two halves, for crates that stand on this one: columns, tables, and calls from C.
+//! The parsers in two halves, for crates that build on this one: columns, tables, and calls from C.
 //!
-//! The first half is the fast path, inlined, and its `None` says nothing about a text. The second half, for what the
-//! first one left, has the answer. Beside them stand three tests that both make.
+//! The first half is the fast path, inlined, and its `None` says nothing about a text. The second half has the answer
+//! for what the first one left. There are also three tests: `is_decimal`, `is_separated` and `keeps_zero_rule`.
 ghost use Rattle.std.specs.Prelude.{◌≡◌};
 ghost use Rattle.lexical_util.specs.Format.{standard};
 ghost use Rattle.lexical_parse_integer.specs.Answer.{view_of};

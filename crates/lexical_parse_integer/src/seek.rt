@@ -77,8 +77,8 @@ fn flag_for(format: &NumberFormat, start: usize, before: bool, after: bool) -> b
     }
 }
 
-// Whether the run from `from`, which is its first byte, to before `to` passes. The text isn't asked for a digit before it:
-// one stands there, unless the numeral begins with the run.
+// Whether the run from `from`, which is its first byte, to before `to` passes. It needn't look for a digit before the
+// run: one stands there, unless the numeral begins with the run.
 #[inline(always)]
 #[tactic(auto, unfolding(crate::specs::Runs::run_passes))]
 fn run_passes(
@@ -101,10 +101,11 @@ fn run_passes(
         && flag_for(format, start, before, after)
 }
 
-// The place behind the run of separators that starts at `position`, where the run passes: else the numeral ends before it.
+// The place behind the run of separators that starts at `position`, if the run passes. If not, the numeral ends before
+// it.
 //
-// Out of line, since runs are rare. It takes the format by value, so that a caller keeps its own in registers, and answers a
-// place alone, since a `Found` goes through memory.
+// Out of line, since runs are rare. It takes the format by value, so that a caller keeps its own in registers, and
+// returns only a place, since a `Found` would go through memory.
 #[inline(never)]
 fn behind_run(
     bytes: &[u8],
@@ -133,8 +134,8 @@ fn behind_run(
     }
 }
 
-// What stands ahead where no digit stands at `position`: without a separator there it is the numeral's end. A run is looked
-// over by another call, which few texts make, and once: where it passes, what is sought stands behind it.
+// What stands ahead if no digit stands at `position`: without a separator there, the numeral's end. Another call, which
+// few texts need, scans a run once: if the run passes, the next digit or the end stands behind it.
 #[inline(always)]
 fn seek_behind_separator(
     bytes: &[u8],

@@ -9,8 +9,8 @@ use lexical_util::digit::char_is_digit;
 /// a digit.
 ///
 /// A partial parse of a text without digits is no fault: under the standard format the front of `x` is `Ok((0, 0))`,
-/// and that of `+a` is `Ok((0, 1))`. So ask this of the place that it answers, wherever a number has to be there: of
-/// `12,` and the place 2 it is true, of `x` and 0, and of `+a` and 1, it is false.
+/// and that of `+a` is `Ok((0, 1))`. So where a number has to be there, call this with the place that the parse
+/// returns: for `12,` and the place 2 it is true; for `x` and 0, and for `+a` and 1, it is false.
 ///
 /// `laws::grammar::front_digits` says under which formats the answer is that of the numeral. Behind a separator or a
 /// suffix it is false though digits were read.

@@ -51,7 +51,7 @@ pub record IsAmountText (text : List ℕ) : Type 0 where
   pub ends : ends_in_digit text ≡ true
   pub unquoted : (k : ℕ) → k < length text → slice_index text k ≢ quote
 
--- no zero leads behind a minus, if one stands there, that may not
+-- behind an optional minus, the digits don't begin with a zero that the description forbids
 abbrev pub KeepsZeroRule : Fixed → Bool → List ℕ → Type 0
 KeepsZeroRule fixed is_negative text = (type : IntegerType) (digits : List ℕ)
     → IsBehind is_negative type text digits → leads_with_zero fixed digits ≡ false
@@ -78,7 +78,7 @@ pub record IsBehindPoint (point places : ℕ) (takes_fewer : Bool) (text : List 
   pub room : 1 ≤ count → count + 2 ≤ length text
   pub stands : 1 ≤ count → slice_index text (length text - 1 - count) ≡ point
 
--- In a column of such amounts no blanks stand in cells, and what stands for a missing number is none itself.
+-- In a column of such amounts no blanks stand in cells, and what stands for a missing number doesn't end in a digit.
 pub record IsAmountsIn (dialect : Dialect) (target : Option TargetView) : Type 0 where
   pub column : HasAmounts target
   pub no_blanks : dialect.allows_blanks ≡ false

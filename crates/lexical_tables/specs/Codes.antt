@@ -27,8 +27,8 @@ type_at place = integer_type (8 * 2 ^ (place % 4)) (nat_le 4 place)
 abbrev pub coded_type : ℕ → IntegerType
 coded_type code = type_at (code % 8)
 
--- Under a format without punctuation, decimal digits behind an optional minus are a number, unless a rule that it has, or
--- has not, forbids a zero in front of them.
+-- A format in radix 10 without punctuation: decimal digits behind an optional minus are a number, unless they begin
+-- with a zero that the format forbids. `has_zero_rule` says whether it forbids leading zeros.
 pub record IsDecimal (format : Format) (has_zero_rule : Bool) : Type 0 where
   pub plain : IsPlain format
   pub decimal : format.mantissa_radix ≡ 10
@@ -69,8 +69,8 @@ pub record IsBareIn (dialect : Dialect) (target : Option TargetView) : Type 0 wh
   pub no_blanks : dialect.allows_blanks ≡ false
   pub no_bits : has_bits target ≡ false
 
--- A code is right for a column in a table: where it says how its cells are read, what stands for a missing number is none
--- itself. So it is in a column of amounts.
+-- A code is right for a column in a table. If it is that of a type with bits, what stands for a missing number doesn't
+-- end in a digit. For amounts `IsAmountsIn` holds, and for bare numbers `IsBareIn`.
 pub record IsCodeIn (dialect : Dialect) (code : ℕ) (target : Option TargetView) : Type 0 where
   pub column : IsCode code target
   pub no_number : 8 ≤ code → has_coded_bits code ≡ true → ends_in_digit dialect.missing.now ≡ false

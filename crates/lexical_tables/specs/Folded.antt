@@ -17,7 +17,7 @@ unfoldable pub folded : List ℕ → List ℕ
 folded text = map (λ place. slice_index text place)
     (filter (λ place. not (is_second text place)) (range_with_len 0 (length text)))
 
--- bytes that begin with others in the place of their own, where these have room, or else as they were
+-- bytes whose first ones are replaced by others, if there is room for these; otherwise as they were
 abbrev pub put_if_room : List ℕ → List ℕ → List ℕ
 put_if_room bytes old =
     if nat_lt (length old) (length bytes) then old else bytes ++ drop (length bytes) old

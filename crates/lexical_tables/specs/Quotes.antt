@@ -11,7 +11,7 @@ quote = 34
 abbrev pub has_odd_quotes : List ℕ → Bool
 has_odd_quotes text = count_by (λ byte. byte == quote) text % 2 == 1
 
--- A byte as a search for another sees it: within quotes, where an odd number stands before it, it is none that is sought.
+-- A byte as a search sees it: within quotes, that is behind an odd number of them, it is never the byte that is sought.
 abbrev pub seen_at : ℕ → List ℕ → ℕ → ℕ
 seen_at sought text place =
     if has_odd_quotes (take place text) then suc sought else slice_index text place
@@ -20,12 +20,12 @@ seen_at sought text place =
 abbrev pub hidden : ℕ → List ℕ → List ℕ
 hidden sought text = map (seen_at sought text) (range_with_len 0 (length text))
 
--- a text as the search sees it, where quotes have a meaning or none; one that is sought has no other
+-- a text as the search sees it: unchanged if quotes have no meaning, or are themselves what is sought
 abbrev pub seen : Bool → ℕ → List ℕ → List ℕ
 seen has_quotes sought text =
     if has_quotes && not (sought == quote) then hidden sought text else text
 
--- the bytes of a text in fields that are as long as others, with a byte between two
+-- the bytes of a text, cut into fields as long as the given ones, with one byte between two
 abbrev pub as_long_as : List FieldView → List ℕ → List FieldView
 as_long_as [] text = []
 as_long_as (field ∷ more) text =

@@ -28,7 +28,7 @@ ends_in byte text = nat_lt 0 (length text) && (slice_index text (length text - 1
 abbrev pub is_ended : ℕ → FieldView → Bool
 is_ended end line = nat_lt (line.start + length line.text) end
 
--- A line as a row. A return in front of a line feed is none of its bytes, if one may stand there, and lacks if one has to.
+-- A line as a row, without a return in front of its line feed, if one may stand there; it may lack one that has to.
 abbrev pub row_of : Bool → Bool → ℕ → FieldView → RowView
 row_of takes_returns asks_returns end line =
     let takes = takes_returns && is_ended end line in

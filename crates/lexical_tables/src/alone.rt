@@ -6,8 +6,8 @@ ghost use Rattle.lexical_tables.specs.Targets.{TargetView};
 
 use crate::dialect::Dialect;
 
-/// The law of columns: each gets the same where a table is read one column at a time, up to the first wrong cell of
-/// all columns together. Where no cell is wrong, the answers are the same too.
+/// The law of columns: each gets the same values if a table is read one column at a time, up to the first wrong cell of
+/// all columns. If no cell is wrong, the answers are the same too.
 ///
 /// The call does nothing. A proof that needs the law makes it, and has its clause.
 pub fn columns_alone()

@@ -118,13 +118,14 @@ fn count_behind(text: &[u8], count: usize, point: u8, places: usize) -> usize
     0
 }
 
-/// The units of the last place that a text's first `size` bytes stand for, and whether a minus
-/// stands in front. The bytes have to be up to twelve decimal digits, alone or behind a minus, and
-/// among them the point with `places` digits behind it, one to eleven. If `takes_fewer`, `places` is
-/// six at most, and one digit behind the point is enough, or no point at all. Seventeen bytes have
-/// to follow them. `None` says nothing of them.
+/// The number that a text's first `size` bytes stand for, in units of the last place, and whether a minus stands in
+/// front.
 ///
-/// It is for a [`TableColumn`](crate::TableColumn) of one's own, in its `read_amount`.
+/// It reads up to twelve decimal digits, alone or behind a minus, with the point among them and `places` digits behind
+/// it: one to eleven. If `takes_fewer`, `places` is at most six, and fewer digits behind the point are enough, or no
+/// point at all. Seventeen more bytes have to follow. `None` says nothing of the bytes.
+///
+/// It is for implementations of [`TableColumn`](crate::TableColumn), in their `read_amount`.
 #[inline(always)]
 pub fn units_of_front(
     text: &[u8],
@@ -162,10 +163,12 @@ pub fn units_of_front(
     Some((is_negative, number * power_of_ten(places - behind)))
 }
 
-/// Whether a text's first `size` bytes have a zero in front, or behind a minus, that may not stand there: another byte than the
-/// point follows it, and the integer part's format forbids leading zeros, as `has_rule` says. A byte has to follow them.
+/// Whether a text's first `size` bytes begin, behind an optional minus, with a zero that may not stand there: another
+/// byte than the point follows it, and the integer part's format forbids leading zeros (`has_rule`). One more byte has
+/// to follow the `size` bytes.
 ///
-/// It is for a [`TableColumn`](crate::TableColumn) of one's own, beside [`units_of_front`], which reads such amounts.
+/// It is for implementations of [`TableColumn`](crate::TableColumn), before [`units_of_front`], which reads such
+/// amounts.
 #[inline(always)]
 pub fn breaks_zero_rule(text: &[u8], size: usize, has_rule: bool, point: u8) -> bool
     requires { size < length text.now }
@@ -179,9 +182,9 @@ pub fn breaks_zero_rule(text: &[u8], size: usize, has_rule: bool, point: u8) -> 
     begins_with_zero(&text[start..size.max(start)], point)
 }
 
-/// Whether amounts under a description are read by [`units_of_front`]: it has one to eleven places, or six at most if it takes
-/// fewer, its point is no quote, and its integer part is decimal, has no separator and asks for no sign. If that forbids leading
-/// zeros, [`breaks_zero_rule`] has to be asked too.
+/// Whether amounts under a description are read by [`units_of_front`]: it has one to eleven places, or at most six if
+/// it takes fewer, its point is no quote, and its integer part is decimal, has no separator and asks for no sign. If
+/// the integer part forbids leading zeros, call [`breaks_zero_rule`] too.
 #[inline]
 pub fn is_quick(format: &FixedFormat) -> bool
     ensures { IsTrue result ↔ IsQuick format.now }

@@ -18,8 +18,8 @@ const ROOM_BEHIND: usize = 17;
 // How many bytes the longest number has that is read near the end of a text: sixteen digits behind a minus.
 const LONGEST_NEAR_END: usize = 17;
 
-// `put_at_once` near the end of a text, as all of a row is that a caller reads alone. Out of line, and the format by value, so
-// that other cells keep theirs in registers.
+// `put_at_once` near the end of a text. All cells are, where a caller reads rows one at a time. Out of line, and the
+// format by value, so that other cells keep theirs in registers.
 #[inline(never)]
 fn put_near_end<T: ParseInteger>(
     values: &mut [T],
@@ -47,15 +47,15 @@ fn put_near_end<T: ParseInteger>(
     }
 }
 
-/// Stores the number that the first `size` bytes of a text write at the row's place of a slice, if the fast path reads it,
-/// and returns whether it did. Otherwise it changes nothing, and says nothing about them.
+/// Stores the number that the first `size` bytes of a text write at the row's place of a slice, if the fast path reads
+/// it, and returns whether it did. If not, nothing changes, and nothing is known of the bytes.
 ///
-/// It reads them if they are up to twenty decimal digits alone or behind a minus, up to twelve in a type of at most 32 bits,
-/// up to sixteen, or eight in a type below 32 bits, where fewer than seventeen bytes follow, the type has the number, and the
-/// format has no punctuation.
+/// It reads decimal digits, alone or behind a minus, if the type has the number and the format has no punctuation.
+/// There may be up to twenty digits, or twelve in a type of at most 32 bits. Where fewer than seventeen bytes follow,
+/// there may be up to sixteen, or eight in a type below 32 bits.
 ///
-/// It is for a [`TableColumn`](crate::TableColumn) of one's own. The format has to be valid, and the slice has to have that
-/// place.
+/// It is for implementations of [`TableColumn`](crate::TableColumn). The format has to be valid, and the slice has to
+/// have that place.
 #[inline(always)]
 pub fn put_at_once<T: ParseInteger>(
     values: &mut [T],
@@ -90,8 +90,8 @@ pub fn put_at_once<T: ParseInteger>(
 }
 
 impl Target<'_> {
-    /// Puts the number of a text's first `size` bytes into a row's place, and sets the row's bit, where
-    /// [`put_at_once`] has it, and returns whether it did.
+    /// Puts the number of a text's first `size` bytes into a row's place, and sets the row's bit, if [`put_at_once`]
+    /// reads it, and returns whether it did.
     #[inline(always)]
     pub(crate) fn read_at_once(&mut self, row: usize, ahead: &[u8], size: usize) -> bool
         requires usable { IsUsable (row + 1) (Some (view_of_target self.old)) }

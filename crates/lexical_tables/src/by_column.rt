@@ -61,8 +61,8 @@ fn cell_fault(
     quote_fault(dialect.has_quotes, is_number, cell)
 }
 
-// Reads a cell in its column of texts as `read_text` does, or returns the fault of its quotes. Out of line, so that numbers don't
-// pay for it.
+// Reads a cell in its column of texts as `read_text` does, or returns the fault of its quotes. Out of line, so that
+// numbers don't pay for it.
 #[inline(never)]
 fn read_left_text<C: TableColumn>(
     target: &mut C,
@@ -125,7 +125,7 @@ fn read_value<C: TableColumn>(
     }
 }
 
-// Reads the cell of a column, if that has a target: what is read goes to the row's place there.
+// Reads the cell of a column, if the column is read: the value goes to the row's place of its target.
 #[inline(always)]
 fn read_cell<C: TableColumn>(
     targets: &mut [C],
@@ -163,7 +163,8 @@ fn read_cell<C: TableColumn>(
     cell_fault(dialect, false, has_no_quote, cell)
 }
 
-// The fault of a row with too few or too many cells, or a wrong end: `count` cells have a column, and one more may start at `extra`.
+// The fault of a row with too few or too many cells, or a wrong end. `count` cells have a column; one more may start at
+// `extra`.
 pub(crate) fn end_fault(
     row: &Row<'_>,
     index: usize,
@@ -194,8 +195,8 @@ pub(crate) fn end_fault(
     })
 }
 
-// Tells what is wrong with the number of a row's cells, or with its end. Out of line: few rows have such a fault, and only these
-// have a `Row` made.
+// Reports what is wrong with the number of a row's cells, or with its end. Out of line: few rows have such a fault, and
+// a `Row` is made only for these.
 #[inline(never)]
 pub(crate) fn put_end_fault(
     start: usize,
@@ -218,9 +219,9 @@ pub(crate) fn put_end_fault(
     *wrong = end_fault(&row, index, columns, count, None);
 }
 
-// Reads a cell as `read_cell` does, the first `size` bytes of a text, where it isn't read at once, and returns whether it is
-// right: else what is wrong is reported. Out of line, to keep registers for the loop. `IS_WIDE` says who calls it, and so each
-// caller has a function of its own.
+// Reads a cell that the fast path left, the first `size` bytes of a text, as `read_cell` does. Returns whether it is
+// right, and reports what is wrong. Out of line, to keep registers for the loop. `IS_WIDE` only gives each of the two
+// callers an instance of its own.
 #[inline(never)]
 pub(crate) fn read_by_column<C: TableColumn, const IS_WIDE: bool>(
     targets: &mut [C],
@@ -261,9 +262,9 @@ pub(crate) fn read_by_column<C: TableColumn, const IS_WIDE: bool>(
     }
 }
 
-// Puts what is read of a row's cells into its place in the targets, up to the row's fault, which it
-// returns. The first `first` columns and `passed` bytes of the row were read before. `ahead` begins
-// with the row. `IS_WIDE` is as in `read_by_column`.
+// Puts what is read of a row's cells into its place in the targets, up to the row's fault, which it returns. The row's
+// first `first` columns and `passed` bytes have been read. `ahead` begins with the row. `IS_WIDE` is as in
+// `read_by_column`.
 #[inline(always)]
 pub(crate) fn read_cells<C: TableColumn, const IS_WIDE: bool>(
     row: &Row<'_>,
@@ -359,11 +360,10 @@ pub(crate) fn read_rest<'a, C: TableColumn>(
 
 /// Reads a table's columns into slices of their own, for at most `rows` rows.
 ///
-/// Each cell of a row has a target, or none: then it isn't read, and may hold any bytes but what ends it, if its
-/// quotes are in place where these have a meaning. So it is with cells behind the last target. The number of a
-/// cell is put at its row's place in the target's slice, and all else in the slices is as it was, also after a
-/// fault: then the numbers are those of all cells before the wrong one. Where the text has more rows than are
-/// asked for, `stop` is where the next one starts.
+/// A cell whose column has no target, or is behind the last target, isn't read: it may hold any bytes but what ends it,
+/// if its quotes are in place where these have a meaning. The number of a cell is put at its row's place in the
+/// target's slice, and all else in the slices stays as it was. After a fault, they have the numbers of all cells before
+/// the wrong one. Where the text has more rows than are asked for, `stop` is where the next one starts.
 ///
 /// The format of each target has to be valid, and its slice and its bits have to have room for
 /// `rows` rows.

@@ -20,8 +20,8 @@ pub(crate) fn column_count(dialect: &Dialect<'_>) -> usize
     }
 }
 
-// Whether what is left of a row has no cell of the next width: it has fewer bytes than that, or
-// where no width is left, none.
+// Whether what is left of a row has no cell of the next width: it has fewer bytes than the width, or no byte, if no
+// width is left.
 #[inline(always)]
 fn lacks_width(text: &[u8], column: usize, widths: &[usize]) -> bool
     ensures lacks { result ≡ lacks_width (drop column widths.now) text.now }

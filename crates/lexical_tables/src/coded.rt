@@ -1,4 +1,4 @@
-//! The codes of targets, and numbers that are put into these by their sign.
+//! The codes of targets, and how numbers are stored in targets by their sign and magnitude.
 
 ghost use Rattle.std.specs.Prelude.{◌≡◌, ◌+◌, ◌<◌, ◌≤◌, ◌^◌, IsTrue, Some, false, length, set, true};
 ghost use Rattle.lexical_digits.specs.Value.{with_sign};
@@ -33,7 +33,7 @@ impl Numbers<'_> {
 }
 
 impl Target<'_> {
-    // What the column says of all its cells.
+    // The code of the column, which describes all its cells.
     pub(crate) fn code(&self) -> u8
         ensures { IsCode result (Some (view_of_target self.now)) }
     {

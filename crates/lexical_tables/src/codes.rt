@@ -1,9 +1,9 @@
-//! What a column says of all its cells, as a byte, which a table's reader asks once a call.
+//! The code of a column: a byte that describes all its cells, which a table's reader asks for once per call.
 //!
-//! [`UNKNOWN`] is right for each column: then it is asked at each cell. The code of a type is for a column whose cells are read
-//! under a format without punctuation in radix 10, with [`WITH_BITS`] added where a number may be missing, and
-//! [`WITH_ZERO_RULE`] where the format forbids zeros in front. Its three lowest bits are the type: 0 to 3 for `u8` to `u64`,
-//! and 4 to 7 for `i8` to `i64`.
+//! [`UNKNOWN`] is right for every column: then the reader asks the column at each cell. The code of a type is for a
+//! column whose cells are read under a format without punctuation in radix 10, with [`WITH_BITS`] added where a number
+//! may be missing, and [`WITH_ZERO_RULE`] where the format forbids leading zeros. Its three lowest bits are the type: 0
+//! to 3 for `u8` to `u64`, and 4 to 7 for `i8` to `i64`.
 
 ghost use Rattle.std.specs.Prelude.{◌≡◌, ◌<◌, ◌≤◌, Some, is_some, length, map, slice_index};
 ghost use Rattle.lexical_tables.specs.Cells.{ends_in_digit};
@@ -27,18 +27,19 @@ pub const NOT_READ: u8 = 1;
 /// The column's cells are texts.
 pub const TEXTS: u8 = 2;
 
-/// The column's cells are numbers, of which `read_at_once` has most.
+/// The column's cells are numbers, most of which `read_at_once` reads.
 pub const AT_ONCE: u8 = 3;
 
-/// The column's cells are numbers that `read_parsed` and `read_left` parse: the loop over cells doesn't ask `read_at_once`.
+/// The column's cells are numbers that `read_parsed` and `read_left` parse: the loop over cells doesn't call
+/// `read_at_once`.
 pub const PARSED: u8 = 5;
 
-// The column's cells are numbers which `TableColumn::read_parsed` parses: neither blanks nor a mark stand in them. A table's
-// reader says it, of a column that says `PARSED`.
+// The column's cells are numbers that `TableColumn::read_parsed` parses: neither blanks nor a mark stand in them. The
+// table's reader sets this code for a column whose own code is `PARSED`.
 pub(crate) const BARE: u8 = 6;
 
-// The column's cells are amounts, which `TableColumn::read_amount` reads. A table's reader says it, of a column that says
-// `AT_ONCE`.
+// The column's cells are amounts, which `TableColumn::read_amount` reads. The table's reader sets this code for a
+// column whose own code is `AT_ONCE`.
 pub(crate) const AMOUNTS: u8 = 7;
 
 /// Numbers of 8 bits without a sign.
@@ -71,9 +72,9 @@ pub const WITH_BITS: u8 = 16;
 /// What is added to the code of a type, with bits or without, where no zero may stand in front of another digit.
 pub const WITH_ZERO_RULE: u8 = 32;
 
-/// The code of a column under a format, by what it is under the standard one, which has to be the code of a type.
+/// The code of a column under a format, from its code under the standard one, which has to be the code of a type.
 ///
-/// It is for a [`TableColumn`](crate::TableColumn) of one's own.
+/// It is for implementations of [`TableColumn`](crate::TableColumn).
 #[tactic(auto, using(crate::proofs::CodeSteps::parsed_integers))]
 pub fn under_format(code: u8, format: &NumberFormat) -> u8
     requires read { 8 ≤ code }
@@ -98,7 +99,7 @@ pub fn has_bits(code: u8) -> bool
     code % (2 * WITH_BITS) >= WITH_BITS
 }
 
-// How many columns of a table may have a code. Those behind them are asked at each cell.
+// How many columns of a table may have a code. The columns behind them are asked at each cell.
 pub(crate) const CODED: usize = 256;
 
 // Which loop reads the cells of a table, by the codes of its columns.
@@ -106,7 +107,7 @@ pub(crate) const CODED: usize = 256;
 pub(crate) enum Loop {
     // Each column has the code of a type without the rule on zeros: the loop asks for no other code.
     Standard,
-    // The loop calls for no cell: one that needs a call leaves it.
+    // The loop makes no call to read a cell: it stops at a cell that needs one.
     WithoutCalls,
     // Texts, amounts or numbers of other formats are read by calls.
     WithCalls,
@@ -141,7 +142,8 @@ fn ends_in_digit(text: &[u8]) -> bool
     char_is_digit(text[text.len() - 1], 10)
 }
 
-// The code of a column of numbers that says `AT_ONCE`: where blanks are passed, or where the mark may be a number too, that.
+// The code in a table of a column whose own code is `AT_ONCE`. It stays that if blanks are allowed, or if the mark may
+// be a number too; otherwise a column with amounts gets `AMOUNTS`.
 #[inline(always)]
 #[tactic(auto, using(crate::proofs::CodeSteps::low_code, crate::proofs::CodeSteps::amounts_code))]
 fn code_of_amounts<C: TableColumn>(target: &C, dialect: &Dialect<'_>, is_mark_number: bool) -> u8
@@ -163,7 +165,7 @@ fn code_of_amounts<C: TableColumn>(target: &C, dialect: &Dialect<'_>, is_mark_nu
     AT_ONCE
 }
 
-// The code of a column of numbers that says `PARSED`: where a cell is its number, that of bare ones.
+// The code in a table of a column whose own code is `PARSED`: `BARE` where neither blanks nor a mark stand in cells.
 #[inline(always)]
 #[tactic(auto, using(crate::proofs::CodeSteps::parsed_code, crate::proofs::CodeSteps::bare_code))]
 fn code_of_parsed<C: TableColumn>(target: &C, dialect: &Dialect<'_>) -> u8
@@ -176,7 +178,7 @@ fn code_of_parsed<C: TableColumn>(target: &C, dialect: &Dialect<'_>) -> u8
     BARE
 }
 
-// A column's code in a table: where the mark may be a number too, its numbers are asked for.
+// A column's code in a table: where the mark may be a number too, the column is asked for each number.
 #[inline(always)]
 #[tactic(auto, using(crate::proofs::CodeSteps::asked_code, crate::proofs::CodeSteps::low_code, crate::proofs::CodeSteps::none_code, crate::proofs::CodeSteps::type_code))]
 fn code_in<C: TableColumn>(target: &C, dialect: &Dialect<'_>, is_mark_number: bool) -> u8
@@ -204,7 +206,7 @@ fn code_in<C: TableColumn>(target: &C, dialect: &Dialect<'_>, is_mark_number: bo
     code
 }
 
-// Asks each column that may have a code for it, and returns which loop reads their cells.
+// Asks each column that may have a code for that code, and returns which loop reads the cells.
 #[inline(never)]
 pub(crate) fn put_codes<C: TableColumn>(
     dialect: &Dialect<'_>,
@@ -225,7 +227,7 @@ pub(crate) fn put_codes<C: TableColumn>(
     columns
 }
 
-// The code of a column. None is kept of those behind the coded ones.
+// The code of a column. The columns behind the coded ones have no code.
 #[inline(always)]
 pub(crate) fn code_of(codes: &[u8], column: usize) -> u8
     ensures coded { column < length codes.now → result ≡ slice_index codes.now column }

@@ -1,4 +1,4 @@
-//! Numbers that are put into a slice of any type, by their sign and what they are without it.
+//! Stores numbers in a slice of any type, by their sign and magnitude.
 
 ghost use Rattle.std.specs.Prelude.{◌≡◌, ◌<◌, ◌^◌, IfSome, IsSome, IsTrue, false, length, map, set, true};
 ghost use Rattle.lexical_digits.specs.Value.{with_sign};
@@ -10,7 +10,8 @@ use lexical_util::num::Integer;
 pub trait ColumnInteger: Integer {
     /// A number with its sign, where the type has it.
     ///
-    /// The least number of a type with a sign is left, and so is a minus in front of 0 where the type has no sign.
+    /// The least number of a signed type isn't handled here, nor a minus in front of 0 where the type is unsigned: the
+    /// answer is `None`.
     fn from_number(is_negative: bool, number: u64) -> Option<Self>
         requires small { number < 2 ^ 63 }
         ensures number { IfSome result (λ value. Self.number value ≡ with_sign is_negative number) }
@@ -115,7 +116,7 @@ impl ColumnInteger for i64 {
 /// Puts a number with its sign into a row's place of a slice, where [`ColumnInteger::from_number`] has it, and returns whether
 /// it did.
 ///
-/// It is for a [`TableColumn`](crate::TableColumn) of one's own. The slice has to have that place.
+/// It is for implementations of [`TableColumn`](crate::TableColumn). The slice has to have that place.
 #[inline(always)]
 pub fn put_with_sign<T: ColumnInteger>(
     values: &mut [T],

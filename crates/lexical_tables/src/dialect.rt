@@ -8,13 +8,14 @@ ghost use Rattle.lexical_tables.specs.Rows.{takes_returns};
 pub enum Layout<'a> {
     /// Rows are lines, and a byte stands between two cells.
     Separated {
-        /// The byte. It may be any, but within a row no line feed is left.
+        /// The byte. It may be any, but a line feed never separates cells, since it ends the row.
         separator: u8,
-        /// How many cells each row has. An empty row has one, which is empty: so with 0 each row has one too many.
+        /// How many cells each row has. A row without a byte has one cell, which is empty: so with 0 each row has one
+        /// too many.
         columns: usize,
     },
-    /// Rows are lines, and each cell has as many bytes as its width says. A cell that isn't wholly there is none, and
-    /// bytes that are left behind the last one are a cell too many.
+    /// Rows are lines, and each cell has as many bytes as its width says. A cell that isn't wholly there doesn't count,
+    /// and bytes behind the last one are a cell too many.
     ///
     /// With the widths 3 and 2 the row `007ab` has the cells `007` and `ab`, and `007a` has one.
     Widths {
@@ -37,11 +38,11 @@ pub struct Dialect<'a> {
     /// Whether a carriage return stands before each line feed that ends a row. Without it, and without `allows_returns`, a
     /// return is a byte of its cell.
     pub has_returns: bool,
-    /// Whether cells may stand within quotes, `"`, as RFC 4180 says. A quote that is the separator parts cells.
+    /// Whether cells may stand within quotes, `"`, as RFC 4180 says. If the quote is the separator, it separates cells.
     pub has_quotes: bool,
     /// Whether blanks, spaces and tabs, may stand around a number, or around what stands for a missing one.
     pub allows_blanks: bool,
-    /// Whether a row that has no byte beside its return is none.
+    /// Whether rows that have no byte but their return are skipped.
     pub skips_empty_rows: bool,
     /// Whether a carriage return may stand before a line feed that ends a row: then it is no byte of the row. Any other is
     /// a byte of its cell, as at the text's end. Where `has_returns` asks for one, this changes nothing.

@@ -17,9 +17,8 @@ use crate::targets::TableColumn;
 use lexical_fields::number_of_front;
 use lexical_parse_integer::Options;
 
-// The text behind the first quote of a cell, and how many of its bytes the cell has between its
-// quotes. Where no two quotes stand around what the cell holds, or quotes have no meaning, these
-// are all of `ahead`, and `size`.
+// The text behind the first quote of a cell, and how many bytes the cell has between its quotes. If the cell isn't
+// within quotes, or quotes have no meaning, they are `ahead` and `size`.
 #[inline(always)]
 fn within_quotes(ahead: &[u8], size: usize, has_quotes: bool) -> (&[u8], usize)
     requires room { size + 17 ≤ length ahead.now }
@@ -41,9 +40,8 @@ fn within_quotes(ahead: &[u8], size: usize, has_quotes: bool) -> (&[u8], usize)
     (&ahead[1..], size - 2)
 }
 
-// Whether one look shows that no quote is out of place in a cell that isn't read, the first `size`
-// bytes of a text: quotes have no meaning, or none stands within the two around the cell, if it has
-// these.
+// Whether one look shows that no quote is out of place in a cell that isn't read, the first `size` bytes of a text:
+// quotes have no meaning, or no quote stands in the cell, except for two around it.
 #[inline(always)]
 fn shows_no_fault(ahead: &[u8], size: usize, has_quotes: bool) -> bool
     requires room { size + 17 ≤ length ahead.now }
@@ -82,8 +80,8 @@ fn keeps_zero_rule<const ALL_STANDARD: bool>(
     ahead[first] != b'0' || size == first + 1
 }
 
-// The number of a text's first `size` bytes with its sign, as `number_of_front` has it, if the digits keep the rule on zeros, where
-// the column's code has that rule.
+// The number of a text's first `size` bytes with its sign, as `number_of_front` reads it, if the digits keep the rule
+// on zeros, where the column's code has that rule.
 #[inline(always)]
 pub(crate) fn coded_number<const ALL_STANDARD: bool>(
     code: u8,
@@ -103,8 +101,8 @@ pub(crate) fn coded_number<const ALL_STANDARD: bool>(
     number_of_front(ahead, size)
 }
 
-// Puts a number with its sign, which a text's first `size` bytes write, into the row's place, where the column's type has it, and
-// returns whether it did.
+// Puts a number with its sign, which a text's first `size` bytes write, into the row's place, if the column's type has
+// it, and returns whether it did.
 #[inline(always)]
 pub(crate) fn put_found<C: TableColumn>(
     target: &mut C,
@@ -157,8 +155,8 @@ fn read_amount<C: TableColumn, const HAS_QUOTES: bool>(
     target.read_amount(row, held, count)
 }
 
-// Reads a cell of a column of bare numbers, the first `size` bytes of a text, where it is one, and no quote stands in it but
-// round the number, and returns whether it did.
+// Reads a cell of a column of bare numbers, the first `size` bytes of a text, if it is a number, alone or within
+// quotes. Returns whether it did.
 #[inline(always)]
 fn read_bare_cell<C: TableColumn, const HAS_QUOTES: bool>(
     target: &mut C,
@@ -233,7 +231,7 @@ pub(crate) fn read_coded<
     ensures kept { result ≡ false → C.target target.new ≡ C.target target.old }
 {
     if !is_typed::<ALL_STANDARD>(code) {
-        // (in two short chains: of one the compiler would make a table of jumps, which takes longer)
+        // Two short chains of tests: of one long chain the compiler would make a jump table, which takes longer.
         if HAS_CALLS && code > AT_ONCE {
             if code == PARSED {
                 return read_parsed_cell(target, row, ahead, size, dialect, options);

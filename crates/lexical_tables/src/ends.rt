@@ -1,4 +1,4 @@
-// Where a row's cells end: at separators and line feeds outside quotes, which looks at 64 bytes mark.
+// Where a row's cells end: at separators and line feeds outside quotes. A look at 64 bytes marks these by bits.
 ghost use Rattle.std.specs.Prelude.{◌≡◌, ◌≢◌, ◌==◌, ◌&&◌, ◌||◌, ◌+◌, ◌++◌, ◌/◌, ◌^◌, ◌<◌, ◌≤◌, ℕ, IfSome, true, if◌then◌else◌, length, drop, slice_index, take};
 ghost use Rattle.std.specs.Int.{bit_at};
 ghost use Rattle.lexical_tables.specs.Ends.{AreEnds, IsFirstEnd, is_end};
@@ -107,8 +107,9 @@ fn copy_16(bytes: &mut [u8; 64], text: &[u8], place: usize)
     put_16(bytes, &text[place..place + 16], place);
 }
 
-// The first bytes of a text that has at least sixteen, up to 64 of them, and zeros behind them. Sixteen at a time: a copy of any
-// other size may become a call of `memcpy`, and the library for C links without C's.
+// The first bytes of a text that has at least sixteen, up to 64 of them, with zeros behind them. They are copied
+// sixteen at a time: a copy of any other size may become a call to `memcpy`, and the library for C links without C's
+// own.
 #[inline(always)]
 fn with_zeros_behind(text: &[u8]) -> [u8; 64]
     requires some { 16 ≤ length text.now }
@@ -132,7 +133,8 @@ fn with_zeros_behind(text: &[u8]) -> [u8; 64]
     bytes
 }
 
-// The ends of cells in a text that is too short for a look at 64 of its bytes. Out of line: it is asked near a text's end alone.
+// The ends of cells in a text that is too short for a look at 64 of its bytes. Out of line: it is called only near a
+// text's end.
 #[inline(never)]
 fn ends_near_end(text: &[u8], separator: u8, has_quotes: bool) -> u64
     requires quoted { has_quotes ≡ true → separator ≢ quote }
@@ -196,8 +198,8 @@ pub(crate) struct FarEnd {
     pub marks: u64,
 }
 
-// Where a text's first cell ends, by as many looks at 64 bytes as there are in front of the end. A text has none where its cell
-// ends, or is cut off, too near its own end.
+// Where a text's first cell ends, by as many looks at 64 bytes as that takes. `None` if the cell ends, or the text
+// stops within it, too near the text's end for a look.
 #[inline(always)]
 pub(crate) fn far_end(text: &[u8], separator: u8, has_quotes: bool) -> Option<FarEnd>
     requires quoted { has_quotes ≡ true → separator ≢ quote }

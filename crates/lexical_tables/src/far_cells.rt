@@ -19,9 +19,9 @@ use crate::row_end::{ReadOn, done, end_row, not_done};
 use crate::targets::TableColumn;
 use lexical_parse_integer::Options;
 
-// Reads the next cell of a row, the first of `left`, wherever it ends. `column` columns were read
-// before. Where no look shows its end, the cell ends near the text's end, and all that is left of
-// the row is read. Where all columns were read before, the cell is one too many.
+// Reads the next cell of a row, the first of `left`, wherever it ends. `column` columns have been
+// read. If no look shows the cell's end, it ends near the text's end, and all that is left of the
+// row is read. If all columns have been read, the cell is one too many.
 #[inline(always)]
 pub(crate) fn read_next_cell<'a, C: TableColumn>(
     start: usize,

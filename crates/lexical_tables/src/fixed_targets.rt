@@ -30,11 +30,11 @@ pub struct FixedTarget<'a> {
     pub present: Option<&'a mut [u8]>,
 }
 
-/// Puts the fixed-point number of a cell that starts at a place into a row's place of a slice, in units of the last place, or
-/// returns the cell's fault. Most are read faster by [`put_fixed_at_once`], which is best asked first.
+/// Puts the fixed-point number of a cell that starts at a place into a row's place of a slice, in units of the last
+/// place, or returns the cell's fault. Most are read faster by [`put_fixed_at_once`], which is best called first.
 ///
-/// It is for a [`TableColumn`](crate::TableColumn) of one's own. The description has to be valid, and the slice has to have
-/// that place.
+/// It is for implementations of [`TableColumn`](crate::TableColumn). The description has to be valid, and the slice has
+/// to have that place.
 #[inline(never)]
 pub fn put_fixed<T: ParseFixed>(
     values: &mut [T],
@@ -62,15 +62,16 @@ pub fn put_fixed<T: ParseFixed>(
     }
 }
 
-/// Stores the fixed-point number that the first `size` bytes of a text write at the row's place of a slice, in units of the
-/// last place, if the fast path reads it, and returns whether it did. Otherwise it changes nothing, and says nothing about
-/// them.
+/// Stores the fixed-point number that the first `size` bytes of a text write at the row's place of a slice, in units of
+/// the last place, if the fast path reads it, and returns whether it did. If not, nothing changes, and nothing is known
+/// of the bytes.
 ///
-/// It reads most of four to sixteen bytes, alone or behind a minus, that are digits around a point with all places, seven at most;
-/// and, if fewer places are taken, most of up to eight bytes with fewer digits behind the point, or without one.
+/// It reads most texts of four to sixteen bytes, alone or behind a minus, that are digits around a point with all
+/// places, at most seven. If fewer places are taken, it also reads most texts of up to eight bytes with fewer digits
+/// behind the point, or without a point.
 ///
-/// It is for a [`TableColumn`](crate::TableColumn) of one's own. The description has to be valid, and the slice has to have
-/// that place.
+/// It is for implementations of [`TableColumn`](crate::TableColumn). The description has to be valid, and the slice has
+/// to have that place.
 #[inline(always)]
 pub fn put_fixed_at_once<T: ParseFixed>(
     values: &mut [T],

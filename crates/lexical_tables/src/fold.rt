@@ -61,9 +61,9 @@ fn put_folded(text: &[u8], to: &mut [u8]) -> usize
 
 /// Writes a text with each doubled quote as one, and answers how many bytes that has: no more than the text.
 ///
-/// It is for what a cell holds within its quotes. Where the slice has too little room nothing is written, and the answer
-/// is what is needed. What lies behind the bytes that are written is as it was. A quote that isn't doubled stays, so of three
-/// in a row two are left.
+/// It is for what a cell holds within its quotes. If the slice has too little room, nothing is written, and the answer
+/// is the room that is needed. What lies behind the written bytes stays as it was. A quote that isn't doubled stays, so
+/// three in a row become two.
 ///
 /// Of `5"" nails` it writes `5" nails`, and answers 8.
 #[tactic(auto, using(crate::proofs::FoldSteps::folded_short))]

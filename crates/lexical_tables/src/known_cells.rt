@@ -84,7 +84,7 @@ pub(crate) fn read_text_cell<C: TableColumn>(
     read_text(target, row, cell, dialect)
 }
 
-// The number of what a cell holds goes to the row's place, where it is read at once: whether it did.
+// Puts the number of what a cell holds into the row's place, if the fast path reads it, and returns whether it did.
 #[inline(always)]
 pub(crate) fn had_at_once<C: TableColumn>(target: &mut C, row: usize, held: Cell<'_>) -> bool
     requires usable { IsUsable (row + 1) (C.target target.old) }
@@ -134,8 +134,8 @@ fn read_parsed<C: TableColumn>(
         .is_none()
 }
 
-// Reads a cell as `read_parsed` does, the first `size` bytes of a text. Its place is of no account: only a fault would have it.
-// Out of line, to keep registers for the loop.
+// Reads a cell as `read_parsed` does, the first `size` bytes of a text. Its place isn't needed: only a fault would
+// report it. Out of line, to keep registers for the loop.
 #[inline(never)]
 pub(crate) fn read_parsed_cell<C: TableColumn>(
     target: &mut C,

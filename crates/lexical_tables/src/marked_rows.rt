@@ -1,4 +1,5 @@
-//! The loops over the rows of a text whose cells marks find: one goes on from cell to cell, and from row to row.
+//! The loops over the rows of a text whose cells are found by marks: one goes on from cell to cell, and from row to
+//! row.
 
 ghost use Rattle.std.specs.Prelude.{◌≡◌, ◌+◌, ◌-◌, ◌<◌, IfOk, IsTrue, None, length, map, ◌≤◌, ◌^◌, ℕ, List, Option, drop, false, true};
 ghost use Rattle.lexical_tables.specs.ByColumn.{AreUsable, StopsAt, columns_answer, columns_put, kinds_of, column_count};
@@ -25,9 +26,10 @@ use crate::row_end::ends_wrong;
 use crate::targets::TableColumn;
 use lexical_parse_integer::Options;
 
-// Reads cells by the codes of their columns, while marks find the cells and each is read at once, up to the end of the row
-// `last`, or to that of the text, if nothing is wrong there. The first `coded` columns have codes. Without `HAS_CALLS` the loop
-// calls `ends_near_end` alone, so that all it needs stays in registers. With `ALL_STANDARD` their codes say the types alone.
+// Reads cells by the codes of their columns, as long as marks find the cells and the fast path reads each: up to the
+// end of the row `last`, or of the text, if nothing is wrong there. The first `coded` columns have codes. Without
+// `HAS_CALLS` the loop calls only `ends_near_end`, so that all it needs stays in registers. With `ALL_STANDARD` all
+// these codes are codes of types without the rule on zeros.
 #[inline(always)]
 fn read_cells_at_once<
     'a,
@@ -126,10 +128,10 @@ fn read_cells_at_once<
     stopped_at(index, start, column, left, false)
 }
 
-// Puts what is read of rows into their places in the targets, from the first row of `from` on, where one pass of marks finds
-// the cells: up to the row `last`, or to the end of a row whose cells aren't all read at once, or of the text. A fault of that
-// row goes to `wrong`. An answer that may be a fault would clear its memory for each row. `SKIPS` says who calls it: a function
-// of one caller is inlined, however large it is.
+// Puts what is read of rows into their places in the targets, from the first row of `from` on, where one pass of marks
+// finds the cells: up to the row `last`, or to the end of a row of which the fast path leaves a cell, or of the text. A
+// fault of that row goes to `wrong`, since a returned `Result` would clear its memory for each row. `SKIPS` says who
+// calls it: so each instance has one caller, and is inlined, however large it is.
 #[inline(always)]
 pub(crate) fn read_marked_rows<
     'a,
@@ -267,8 +269,8 @@ fn read_coded_rows<
     })
 }
 
-// `read_coded_rows` of a table with texts, amounts or numbers of other formats, which calls read in
-// its loop. Out of line, so that other tables have loops of their own, without a call.
+// `read_coded_rows` of a table with texts, amounts or numbers of other formats, which its loop reads by calls. Out of
+// line, so that other tables have loops of their own, without calls.
 #[inline(never)]
 fn read_called_rows<C: TableColumn, const HAS_QUOTES: bool>(
     text: &[u8],

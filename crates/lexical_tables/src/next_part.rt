@@ -1,4 +1,4 @@
-//! The next cell of a row, as marks find it.
+//! The next cell of a row, found by marks.
 
 ghost use Rattle.std.specs.Prelude.{◌≡◌, ◌≢◌, ◌==◌, ◌&&◌, ◌+◌, ◌-◌, ◌/◌, ◌^◌, ◌<◌, ◌≤◌, IfSome, false, drop, length, slice_index, take, true};
 ghost use Rattle.lexical_tables.specs.Ends.{AreEnds, IsFirstEnd};
@@ -154,8 +154,8 @@ fn far_part<'a>(
     }
 }
 
-// The next cell of the first row of a text: by the marks of `left`, the text from the cell on, and
-// where there is none, by looks behind these.
+// The next cell of the first row of a text. It is found by the marks of `left`, the text from the
+// cell on, or, if there is none, by looks at the bytes behind them.
 #[inline(always)]
 pub(crate) fn found_part<'a>(
     text: &[u8],

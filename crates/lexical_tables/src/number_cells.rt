@@ -29,8 +29,8 @@ fn is_near_end(held: Cell<'_>) -> bool
     held.ahead.len() - held.text.len() < ROOM_BEHIND
 }
 
-// Puts the number of what a cell holds into the row's place, where that is up to eighteen digits alone or behind a minus, and
-// returns whether it did.
+// Puts the number of what a cell holds into the row's place, if the cell holds up to eighteen digits, alone or behind a
+// minus, and returns whether it did.
 #[inline(always)]
 fn put_digits<C: TableColumn>(target: &mut C, code: u8, row: usize, held: Cell<'_>) -> bool
     requires column { IsReadAs code (C.target target.old) }
@@ -49,8 +49,9 @@ fn put_digits<C: TableColumn>(target: &mut C, code: u8, row: usize, held: Cell<'
     put_found(target, code, row, held.ahead, size, found)
 }
 
-// Reads what a cell holds, the first `size` bytes of a text, where digits read as words aren't all of it: the mark, another
-// number, or none. Returns whether it is right: else what is wrong is reported. Out of line, to keep registers for the loops.
+// Reads what a cell holds, the first `size` bytes of a text, where digits read as words aren't all of it: the mark,
+// another number, or no number. Returns whether it is right, and reports what is wrong. Out of line, to keep registers
+// for the loops.
 #[inline(never)]
 pub(crate) fn read_held_number<C: TableColumn>(
     target: &mut C,
@@ -175,8 +176,8 @@ fn read_padded_number<C: TableColumn>(
     read_number(target, code, column, row, cell, dialect, options, wrong)
 }
 
-// Reads a cell of a column of numbers, the first `size` bytes of a text, that wasn't read at once: between blanks digits may stand,
-// which are read by the column's code. Returns whether it is right: else what is wrong is reported.
+// Reads a cell of a column of numbers that the fast path left, the first `size` bytes of a text. Digits between blanks
+// are read by the column's code. Returns whether the cell is right, and reports what is wrong.
 #[inline(always)]
 pub(crate) fn read_other_number<C: TableColumn>(
     target: &mut C,

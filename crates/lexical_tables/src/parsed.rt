@@ -12,8 +12,8 @@ use lexical_parse_integer::parse::ParseInteger;
 use lexical_parse_integer::quick::{complete_standard, complete_valid, value_for_format};
 use lexical_parse_integer::{Error, NumberFormat, NumberFormatBuilder, format};
 
-// Puts the number of a cell that isn't read at once into a row's place, or returns the cell's fault: by the reader for its
-// format's kind, or by the parser.
+// Puts the number of a cell that the fast path left into a row's place, or returns the cell's fault: by the reader for
+// its format's kind, or by the parser.
 #[inline(never)]
 pub(crate) fn put_parsed<T: ParseInteger>(
     values: &mut [T],
@@ -41,11 +41,11 @@ pub(crate) fn put_parsed<T: ParseInteger>(
     }
 }
 
-/// Puts the number of a cell into a row's place of a slice, under the standard format with another radix than 10, where the cell
-/// is digits alone or behind a minus and the type has their number, and returns whether it did. Else it puts nothing, and says
-/// nothing of the cell. The format is made here: what it asks for isn't asked again.
+/// Puts the number of a cell into a row's place of a slice, under the standard format with another radix than 10, if
+/// the cell is digits alone or behind a minus and the type has their number, and returns whether it did. If not,
+/// nothing changes, and nothing is known of the cell. The format is built here, so its fields aren't tested again.
 ///
-/// It is for a [`TableColumn`](crate::TableColumn) of one's own. The slice has to have that place.
+/// It is for implementations of [`TableColumn`](crate::TableColumn). The slice has to have that place.
 #[inline(never)]
 pub fn put_in_radix<T: ParseInteger>(values: &mut [T], row: usize, cell: &[u8], radix: u8) -> bool
     requires room { row < length values.old }
@@ -70,11 +70,11 @@ pub fn put_in_radix<T: ParseInteger>(values: &mut [T], row: usize, cell: &[u8], 
     }
 }
 
-/// Puts the number of a cell that [`put_at_once`](crate::put_at_once) has left into a row's place of a slice, or returns the
-/// cell's fault, under the standard format, which is made here: a caller would make it for each cell. Of up to twelve bytes few
-/// digits were left, so they aren't read as such again.
+/// Puts the number of a cell that [`put_at_once`](crate::put_at_once) left into a row's place of a slice, or returns
+/// the cell's fault, under the standard format. The format is built here: a caller would build it for each cell. A cell
+/// of up to twelve bytes that was left is seldom digits alone, so it isn't read as such again.
 ///
-/// It is for a [`TableColumn`](crate::TableColumn) of one's own. The slice has to have that place.
+/// It is for implementations of [`TableColumn`](crate::TableColumn). The slice has to have that place.
 #[inline(never)]
 pub fn put_standard_parsed<T: ParseInteger>(
     values: &mut [T],

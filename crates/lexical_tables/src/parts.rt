@@ -47,9 +47,9 @@ pub(crate) fn whole_rows(text: &[u8], dialect: &Dialect<'_>) -> usize
 /// Reads the columns in the whole rows of a part of a text, as [`read_columns`](crate::read_columns) does in a
 /// whole text.
 ///
-/// A part may end within a row. That row is left, unless the part is the last one: put the bytes from `stop`
-/// on in front of the next part. Rows and places count from the part's start. Read so, all parts give the
-/// numbers and the first fault of the whole text ([`columns_in_parts`]).
+/// A part may end within a row. That row isn't read, unless the part is the last one: put the bytes from `stop` on in
+/// front of the next part. Rows and places count from the part's start. Read in this way, all parts give the numbers
+/// and the first fault of the whole text ([`columns_in_parts`]).
 ///
 /// With a comma and two columns, `1,2\n3,4` gives one row and stops at 4 where more follows, and two rows
 /// where it is the last part.
@@ -76,9 +76,9 @@ pub fn read_columns_part<C: TableColumn>(
     read_columns(whole, dialect, options, rows, targets)
 }
 
-/// The law of parts: wherever a text is cut, its whole rows in front of the cut, and then all that is left, give
-/// the numbers and the first fault of the whole text, where each column's format is valid. Rows and places are
-/// counted on.
+/// The law of parts: wherever a text is cut, its whole rows in front of the cut, and then all that is left, give the
+/// numbers and the first fault of the whole text, where each column's format is valid. Rows and places count from the
+/// beginning of the whole text.
 ///
 /// The call does nothing. A proof that needs the law makes it, and has its clause.
 pub fn columns_in_parts()

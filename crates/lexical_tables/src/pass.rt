@@ -1,4 +1,4 @@
-//! Rows as a table's reader meets them: with marks or without, and behind empty ones.
+//! The next rows of a table: found by marks or without them, and behind empty rows.
 
 ghost use Rattle.std.specs.Prelude.{◌≡◌, ◌≢◌, ◌==◌, ◌+◌, ◌-◌, ◌/◌, ◌<◌, ◌≤◌, ◌^◌, ◌&&◌, ℕ, IfOk, IfSome, IsTrue, None, Some, drop, false, length, map, not, slice_index, take, true};
 ghost use Rattle.lexical_tables.specs.ByColumn.{AreUsable, StopsAt, answer_at, column_count, columns_answer, columns_put, end_fault, fault_in, kinds_of, put_read_at, put_row, row_fault, row_values, separator_of};
@@ -39,8 +39,8 @@ pub(crate) fn marked_separator(text: &[u8], dialect: &Dialect<'_>) -> Option<u8>
     Some(separator)
 }
 
-// Puts what is read of rows into their places in the targets, as `read_marked_rows` does: where no marks find the cells, of one
-// row.
+// Puts what is read of rows into their places in the targets, as `read_marked_rows` does. If the cells aren't found by
+// marks, it reads one row.
 #[inline(always)]
 pub(crate) fn read_first_rows<'a, C: TableColumn, const HAS_QUOTES: bool, const HAS_CALLS: bool>(
     text: &'a [u8],
@@ -131,8 +131,8 @@ pub(crate) fn behind_empty_rows<'a>(
     Left { text, marks: 0 }
 }
 
-// Asks the columns for their codes, where marks find the cells, and returns which loop reads these. Elsewhere it asks for no
-// code.
+// Asks the columns for their codes if the cells are found by marks, and returns which loop reads them. Otherwise it
+// asks for no code.
 #[inline(always)]
 pub(crate) fn ask_codes<C: TableColumn>(
     marked: Option<u8>,

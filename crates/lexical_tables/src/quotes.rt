@@ -11,8 +11,8 @@ pub(crate) mod parities;
 use self::looks::look_at_16;
 use lexical_fields::{field_length, lowest_mark, marks_among_16, next_marks, split_marked};
 
-// How many bytes stand before the first separator outside quotes, or in the text where there is none. Where quotes have a
-// meaning, an empty row's end is its first byte, and no call is made for that.
+// How many bytes stand before the first separator outside quotes, or in the text where there is none. Where quotes have
+// a meaning, a separator as the first byte, as at an empty row, is answered without a call.
 #[inline(always)]
 pub(crate) fn length_outside(text: &[u8], separator: u8, has_quotes: bool) -> usize
     ensures value { result ≡ length_outside has_quotes separator text.now }
@@ -27,7 +27,7 @@ pub(crate) fn length_outside(text: &[u8], separator: u8, has_quotes: bool) -> us
     quoted_length(text, separator)
 }
 
-// How many they are where quotes have no meaning: by one look at 64 bytes, as most lines end among these.
+// `length_outside` where quotes have no meaning: by one look at 64 bytes, since most lines end among these.
 #[inline(always)]
 fn marked_length(text: &[u8], separator: u8) -> usize
     ensures value { result ≡ field_length separator text.now }
@@ -40,7 +40,8 @@ fn marked_length(text: &[u8], separator: u8) -> usize
     split_marked(text, marks, separator).0
 }
 
-// How many bytes, where quotes have a meaning: by a look at sixteen bytes, and then by a loop. Out of line: the loop keeps more.
+// `length_outside` where quotes have a meaning: by a look at sixteen bytes, and then by a loop. Out of line, since the
+// loop needs more registers.
 #[inline(never)]
 fn quoted_length(text: &[u8], separator: u8) -> usize
     ensures value { result ≡ field_length separator (hidden separator text.now) }
@@ -120,8 +121,8 @@ pub(crate) fn shows_no_quote(text: &[u8], size: usize) -> bool
     has_none_below(marks_among_16(&text[..16], b'"'), size)
 }
 
-// How many bytes the first cell of what is left of a row has, and whether it was seen that none of them is a quote, where
-// sixteen bytes show its end: as they do of most cells. What is ahead begins with what is left.
+// How many bytes the first cell of what is left of a row has, and whether it was seen that none of them is a quote, if
+// sixteen bytes show its end, as they do for most cells. `ahead` begins with `rest`.
 #[inline(always)]
 pub(crate) fn near_length(rest: &[u8], ahead: &[u8], separator: u8) -> Option<(usize, bool)>
     requires rest { rest.now ≡ take (length rest.now) ahead.now }

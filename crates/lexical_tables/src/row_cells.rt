@@ -108,14 +108,14 @@ fn put_row_cells(
 /// Stores where the cells of a text's first row are at the front of the slice `cells`, from the
 /// column `first` on, as far as there is room, and returns how many cells the row has.
 ///
-/// A cell stands with its quotes and blanks, and without what ends the row. By widths these are the
-/// cells that are wholly there, and one more where bytes are left behind the last width. Between
-/// separators a row without a byte has one cell, which is empty; a text without a byte has no row.
-/// Empty rows count here, also where the dialect skips them: so let the text begin at the start of
-/// the row that you want, as [`row_place`](crate::row_place) returns it. All else in the slice is
-/// as it was.
+/// A cell includes its quotes and blanks, but not what ends the row. With widths, the cells are those that are wholly
+/// there, and one more if bytes are left behind the last width. With a separator, a row without a byte has one cell,
+/// which is empty; a text without a byte has no row. Empty rows count here, even if the dialect skips them: so let the
+/// text begin at the start of the row that you want, which [`row_place`](crate::row_place) returns. All else in the
+/// slice stays as it was.
 ///
-/// The cells of a header have its names. For the cell of a fault, ask from its column on, and for one.
+/// For the names of the columns, read the cells of a header. For the cell of a fault, let `first` be its column, and
+/// `cells` have room for one.
 ///
 /// With commas and quotes `ab,,"c,d"\n` has 3 cells, and from the column 1 on they are at 3 with 0 bytes and at 4 with 5.
 #[inline(never)]

@@ -67,8 +67,8 @@ pub(crate) fn ends_wrong(
     lacks_return(left, part.size, dialect.has_returns)
 }
 
-// Reports what is wrong with the end of a row, if anything is. Its last cell, the first of `left`,
-// is read, that of a column.
+// Reports what is wrong with the end of a row, if anything is. The row's last cell, the first of
+// `left`, has been read: that of a column.
 #[inline(always)]
 pub(crate) fn end_row(
     start: usize,

@@ -135,8 +135,8 @@ fn skip_coded_rows<C: TableColumn, B: KeptRow, const HAS_QUOTES: bool, const HAS
     }
 }
 
-// `skip_coded_rows` of a table with texts, amounts or numbers of other formats, which calls read in
-// its loop. Out of line, as `read_called_rows` is.
+// `skip_coded_rows` of a table with texts, amounts or numbers of other formats, which its loop reads by calls. Out of
+// line, as `read_called_rows` is.
 #[inline(never)]
 fn skip_called_rows<C: TableColumn, B: KeptRow, const HAS_QUOTES: bool>(
     text: &[u8],
@@ -204,10 +204,9 @@ fn skip_rows<C: TableColumn, B: KeptRow, const HAS_QUOTES: bool>(
 /// Reads a table's columns into slices of their own, as [`read_columns`](crate::read_columns) does, and skips the rows
 /// at fault.
 ///
-/// All right rows and no others are stored, one behind another, up to `rows` of them. A row with
-/// too few or too many cells is at fault as any other. What is known of each bad row is kept in
-/// `bad`, in their order, up to its room; all else there is as it was, and `bad_rows` counts all of
-/// them.
+/// The right rows, and only these, are stored one behind another, up to `rows` of them. A row with too few or too many
+/// cells is at fault too. What is known of the bad rows is stored in `bad`, in their order, as far as there is room;
+/// all else there stays as it was, and `bad_rows` counts all bad rows.
 ///
 /// The call stops behind the last right row that it is asked for, or else at the text's end: so no bad row that follows
 /// that right one is read. A call whose text begins at `stop` goes on with the next row, and counts rows and places
@@ -216,9 +215,9 @@ fn skip_rows<C: TableColumn, B: KeptRow, const HAS_QUOTES: bool>(
 /// A bad row is read up to its fault, into the place of the next right one. So in each slice the place behind the last
 /// right row, and its bit, may have changed, if fewer rows are there than were asked for. All else is as it was.
 ///
-/// With commas, two columns of `u8` and room for three rows, `1,2\n3,x\n5,6\n` puts 1 and 5, and 2 and 6. The answer
-/// is two rows and one bad row, stopping at 12; `bad` has that of number 1, with the fault of its column 1 at 6, from 4
-/// to 8.
+/// With commas, two columns of `u8` and room for three rows, `1,2\n3,x\n5,6\n` puts 1 and 5, and 2 and 6. The answer is
+/// two rows and one bad row, stopping at 12. `bad` has the bad row, which is row 1 and stands from 4 to 8, with the
+/// fault of its column 1 at 6.
 pub fn read_columns_skipping<C: TableColumn, B: KeptRow>(
     text: &[u8],
     dialect: &Dialect<'_>,
@@ -247,7 +246,7 @@ pub fn read_columns_skipping<C: TableColumn, B: KeptRow>(
 /// Reads the columns in the whole rows of a part of a text, and skips the rows at fault, as
 /// [`read_columns_skipping`] does in a whole text.
 ///
-/// A row that a part ends in is left, unless the part is the last one, as in
+/// A row that a part ends in isn't read, unless the part is the last one, as in
 /// [`read_columns_part`](crate::read_columns_part): put the bytes from `stop` on in front of the next part.
 pub fn read_part_skipping<C: TableColumn, B: KeptRow>(
     text: &[u8],

@@ -36,8 +36,8 @@ pub struct Target<'a> {
 
 /// Puts the number of a cell that starts at a place into a row's place of a slice, or returns the cell's fault.
 ///
-/// It is for a [`TableColumn`] of one's own. The format has to be valid, and the slice has to have that place. The
-/// text ahead begins with the cell: by what follows there, digits are read as words.
+/// It is for implementations of [`TableColumn`]. The format has to be valid, and the slice has to have that place.
+/// `ahead` begins with the cell: if enough bytes follow there, digits are read as words.
 #[inline(always)]
 pub fn put_cell<T: ParseInteger>(
     values: &mut [T],
@@ -89,7 +89,7 @@ pub fn put_standard_cell<T: ParseInteger>(
 
 /// Puts 0 into a row's place of a slice.
 ///
-/// It is for a [`TableColumn`] of one's own. The slice has to have that place.
+/// It is for implementations of [`TableColumn`]. The slice has to have that place.
 pub fn put_zero<T: ParseInteger>(values: &mut [T], row: usize)
     requires room { row < length values.old }
     ensures { map T.number values.new ≡ set (map T.number values.old) row (pos 0) }
@@ -99,7 +99,7 @@ pub fn put_zero<T: ParseInteger>(values: &mut [T], row: usize)
 
 /// Sets the bit of a row, or clears it.
 ///
-/// It is for a [`TableColumn`] of one's own. The bytes have to have that bit.
+/// It is for implementations of [`TableColumn`]. The bytes have to have that bit.
 #[inline]
 pub fn put_bit(bytes: &mut [u8], row: usize, is_there: bool)
     requires room { row < 8 * length bytes.old }
@@ -152,8 +152,8 @@ pub trait TableColumn {
         requires usable { IsUsable (row + 1) (target self.old) }
         ensures { target self.new ≡ option_map (put_value row None) (target self.old) };
 
-    /// Puts where a text stands into a row's place, and sets the row's bit, where the code is `TEXTS`. It has to be right for
-    /// the column; by another code nothing is put.
+    /// Puts where a text stands into a row's place, and sets the row's bit, if the code is `TEXTS`. The code has to be
+    /// right for the column. With another code nothing changes.
     fn put_text(&mut self, code: u8, row: usize, text: CellText)
         requires code { IsCode code (target self.old) }
         requires usable { IsUsable (row + 1) (target self.old) }
@@ -179,10 +179,11 @@ pub trait TableColumn {
         ensures target { target self.new ≡ option_map (put_text row
             (record { start = start; text = text.now })) (target self.old) };
 
-    /// Puts the number that a text's first `size` bytes stand for into a row's place, and sets the row's bit, where that
-    /// is read at once, and returns whether it did. Else it puts nothing, and says nothing of them: `read_left` has to be asked.
+    /// The fast path: puts the number that a text's first `size` bytes stand for into a row's place, and sets the row's
+    /// bit, and returns whether it did. If not, nothing changes, and nothing is known of the bytes: `read_left` has to
+    /// be called.
     ///
-    /// A column that doesn't write it is read by `read` alone.
+    /// By default it reads nothing, and the column is read by `read` alone.
     fn read_at_once(&mut self, row: usize, ahead: &[u8], size: usize) -> bool
         requires usable { IsUsable (row + 1) (target self.old) }
         requires within { size ≤ length ahead.now }
@@ -195,9 +196,9 @@ pub trait TableColumn {
         false
     }
 
-    /// Does what `read` does, of a text that `read_at_once` left or wasn't asked for: it needn't try that.
+    /// Does what `read` does, for a text that `read_at_once` left or wasn't called for: it needn't try that first.
     ///
-    /// A column that doesn't write it asks `read`.
+    /// By default it calls `read`.
     #[inline(always)]
     fn read_left(
         &mut self,
@@ -218,15 +219,16 @@ pub trait TableColumn {
         self.read(row, start, text, ahead, options)
     }
 
-    /// Whether its cells are amounts that `read_amount` reads. A column that says `AT_ONCE` is asked it, once a call.
+    /// Whether its cells are amounts that `read_amount` reads. This is asked once per call, of a column whose code is
+    /// `AT_ONCE`.
     fn has_amounts(&self) -> bool
         ensures { IsTrue result → HasAmounts (target self.now) }
     {
         false
     }
 
-    /// Does what `read_at_once` does, of an amount that [`units_of_front`](crate::units_of_front) has. A column of fixed-point
-    /// numbers is asked only if it says that it has amounts. By default it puts none.
+    /// Does what `read_at_once` does, for an amount that [`units_of_front`](crate::units_of_front) reads. It is called
+    /// on a column of fixed-point numbers only if `has_amounts` is true. By default it reads nothing.
     fn read_amount(&mut self, row: usize, ahead: &[u8], size: usize) -> bool
         requires amounts { HasAmountsIfFixed (target self.old) }
         requires usable { IsUsable (row + 1) (target self.old) }
@@ -241,10 +243,11 @@ pub trait TableColumn {
         false
     }
 
-    /// Puts the number that a text's first `size` bytes stand for into a row's place, and returns whether it did. Else it puts
-    /// nothing, and says nothing of them: `read` has to be asked. A column is asked only if it says `PARSED`, and has no bits.
+    /// Puts the number that a text's first `size` bytes stand for into a row's place, and returns whether it did. If
+    /// not, nothing changes, and nothing is known of the bytes: `read` has to be called. It is called only on a column
+    /// whose code is `PARSED`, and that has no bits.
     ///
-    /// A column that doesn't write it asks `read_left`.
+    /// By default it calls `read_left`.
     #[inline(never)]
     fn read_parsed(&mut self, row: usize, ahead: &[u8], size: usize, options: &Options) -> bool
         requires numbers { has_numbers (target self.old) ≡ true }
@@ -261,8 +264,8 @@ pub trait TableColumn {
             .is_none()
     }
 
-    /// What the column says of all its cells, as one of [`codes`](crate::codes): it is asked once a call. `UNKNOWN`, as a
-    /// column says that doesn't write it, is always right.
+    /// The code of the column, one of [`codes`](crate::codes), which describes all its cells. It is asked for once per
+    /// call. `UNKNOWN`, the default, is always right.
     ///
     /// A column with the code of a type has to write `put_number` too, if its numbers are to be put by that.
     #[inline(always)]
@@ -272,10 +275,10 @@ pub trait TableColumn {
         UNKNOWN
     }
 
-    /// Puts a number with its sign into a row's place, and sets the row's bit, where the column's type has it, and tells
-    /// whether it did. Else it puts nothing. The code has to be that of the column, and of a type.
+    /// Puts a number with its sign into a row's place, and sets the row's bit, if the column's type has it, and returns
+    /// whether it did. If not, nothing changes. The code has to be that of the column, and of a type.
     ///
-    /// A column that doesn't write it puts none.
+    /// By default it puts nothing.
     #[inline(always)]
     fn put_number(&mut self, code: u8, row: usize, is_negative: bool, number: u64) -> bool
         requires code { IsReadAs code (target self.old) }

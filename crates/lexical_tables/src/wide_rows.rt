@@ -20,7 +20,8 @@ use crate::rows::{Row, first_row};
 use crate::targets::TableColumn;
 use lexical_parse_integer::Options;
 
-// The fewest bytes of a text, and the fewest rows, for which columns are asked for their codes: fewer take less time than that.
+// The fewest bytes of a text, and below it the fewest rows, for which columns are asked for their codes: fewer are read
+// in less time than asking takes.
 const LEAST_CODED: usize = 256;
 
 const LEAST_ROWS: usize = 2;
@@ -47,7 +48,7 @@ struct Passed {
     bytes: usize,
 }
 
-// What was read of a row, by what is left of it.
+// How much of a row was read, from what is left of it.
 #[inline(always)]
 fn passed_before(columns: usize, row: &Row<'_>, rest: &[u8]) -> Passed
     requires { length rest.now ≤ length row.now.text.now }
@@ -227,7 +228,8 @@ pub(crate) fn read_wide_row<'a, C: TableColumn>(
     behind
 }
 
-// Whether the cells of a column are read faster by its code than by asking it. No answer depends on this: either loop has each.
+// Whether the cells of some column are read faster by its code than by asking the column. No answer depends on this:
+// either loop reads every table.
 fn has_known_cells(codes: &[u8; CODED], count: usize) -> bool {
     for column in 0..count.min(CODED) {
         let code = codes[column];

@@ -49,8 +49,8 @@ pub data IsWidth : ℕ → Type 0 where
   w64 : IsWidth 64
   w128 : IsWidth 128
 
--- how many digits of the radix are joined with no test: two a byte for a radix up to 16, less one where
--- the type is signed, and one a byte for a greater radix
+-- how many digits of the radix are joined with no test: two per byte for a radix up to 16, less one where the type is
+-- signed, and one per byte for a greater radix
 abbrev pub overflow_digits : IntegerType → ℕ → ℕ
 overflow_digits type radix =
     if nat_le radix 16 then (2 * (type.bits / 8)) - (if type.is_signed then 1 else 0)

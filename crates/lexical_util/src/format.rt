@@ -94,8 +94,8 @@ impl NumberFormat {
     /// The byte that may come among the digits and counts for nothing, as `_` in `1_000`. It is no decimal comma: with `,`
     /// between digits `12,505` is 12505. For amounts there are fixed-point numbers.
     ///
-    /// It is matched exactly, also where it is a letter. The `integer_` flags say where it may be;
-    /// with none of them it may be nowhere, and without a separator they have no effect.
+    /// It is matched exactly, even if it is a letter. The `integer_` flags say where it may be; if none is set, it may
+    /// stand nowhere. Without a separator they have no effect.
     #[inline(always)]
     pub fn digit_separator(&self) -> Option<u8>
         ensures { result ≡ self.now.digit_separator }

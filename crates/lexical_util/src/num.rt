@@ -97,10 +97,10 @@ pub trait Integer: Copy + Eq + Ord {
     /// How many digits `mul_add` can join without a test: no numeral of that length leaves the
     /// type, not even with a minus if the type is signed.
     ///
-    /// The radix has to be from 2 to 36. Up to 16 it is two digits a byte, less one where the type
-    /// is signed, and above 16 one digit a byte: `u8` has 2 for 16 and 1 for 17, `i8` has 1 for
-    /// both. It is no greatest such number: in radix 10 `u64` has room for 19 digits, and 16 is
-    /// answered. The rule is that of the Rust crate `lexical-parse-integer`.
+    /// The radix has to be from 2 to 36. For a radix up to 16 it is two digits a byte, less one where the type is
+    /// signed, and above 16 one digit a byte: `u8` has 2 for 16 and 1 for 17, `i8` has 1 for both. It isn't always the
+    /// greatest such number: in radix 10 `u64` has room for 19 digits, and the answer is 16. The rule is that of the
+    /// Rust crate `lexical-parse-integer`.
     #[inline(always)]
     fn overflow_digits(radix: u32) -> usize
         requires { IsRadix radix }

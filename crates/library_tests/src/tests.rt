@@ -14,7 +14,7 @@ mod util;
 use std::fmt::Debug;
 use std::process::Abort;
 
-// An answer is as expected. Each assertion takes the prover seconds, and a call of this a tenth of one.
+// An answer is as expected. An assertion takes the prover seconds, and a call to this function a tenth of a second.
 fn answers<A: PartialEq + Debug + Drop>(rt: &impl Abort, answer: A, expected: A) {
     assert_eq!(rt; answer, expected);
 }

@@ -13,7 +13,7 @@ use Rattle.uses.specs.declared.json.Part.TheVariants.{Whole, Unfinished}
 use Rattle.uses.specs.declared.json.NumberError.{NumberError}
 use Rattle.uses.specs.declared.json.NumberError.TheVariants.{NoDigit, OutOfRange, Malformed}
 
--- what a front tells that ends before its text does
+-- what is known of the number by a front that ends before its text does
 abbrev pub part_behind : List ℕ → ℤ → ℕ → Result Part NumberError
 part_behind text value end =
     if stops_after_digit 10 text end then Ok (Whole value end)
@@ -29,7 +29,7 @@ part_by text (Err (Overflow place)) = Err (OutOfRange (Overflow place))
 part_by text (Err (Underflow place)) = Err (OutOfRange (Underflow place))
 part_by text (Err e) = Err (Malformed e)
 
--- what a text tells of the number that it begins
+-- what is known of the number that a text begins with
 abbrev pub part_in : List ℕ → Result Part NumberError
 part_in text = part_by text (partial json (integer_type 64 true) text)
 

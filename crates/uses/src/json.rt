@@ -26,7 +26,7 @@ pub enum NumberError {
     Malformed(Error),
 }
 
-/// The integer part of the JSON number that the input begins with, `read` being what has come so
+/// The integer part of the JSON number that the input begins with, where `read` is the input so
 /// far.
 ///
 /// An answer other than `Unfinished` and `Malformed` is final: a reader may cut its buffer after

@@ -82,8 +82,8 @@ fn as_i64(number: i128) -> Option<i64>
 /// The sum of the amounts in a ledger's lines, which are those of `str::lines`; an empty line has
 /// none.
 ///
-/// The first line that is no entry is reported before a sum that leaves `i64`. The sum is that of all
-/// lines, so that their order doesn't matter: an amount may make up for what others exceed.
+/// The first line that is no entry is reported before a sum that leaves `i64`. Only the sum of all lines has to fit
+/// `i64`, so their order doesn't matter: a partial sum may exceed `i64`.
 pub fn total(text: &str) -> Result<i64, LedgerError>
     ensures { result ≡ total_in text.now }
 {

@@ -1,7 +1,7 @@
 //! Integers of TOML, and a line that sets one: `+1_000` and `-17`, or `0xdead_beef`, `0o755` and `0b1101` without a
 //! sign.
 //!
-//! `lexical_formats::toml` says all of TOML's rules but one: that no sign comes before a prefix. So the reader asks
+//! `lexical_formats::toml` has all of TOML's rules but one: that no sign comes before a prefix. So the reader tests
 //! that first.
 
 ghost use Rattle.std.specs.Prelude.{◌≡◌};

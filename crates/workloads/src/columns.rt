@@ -56,7 +56,8 @@ fn push_number(
     }
 }
 
-// Adds a number, and for one of a hundred what is none: one with a blank, a letter, a minus alone, one too large, nothing.
+// Adds a number, or, once in a hundred times, what is no number: an `x` behind a blank, a minus, three digits or 24
+// digits, or nothing.
 fn push_faulty(sample: &mut Sample, random: &mut Random) -> Result<(), AllocError> {
     if random.percent(99) {
         let digits = random.realistic(16);
@@ -121,7 +122,7 @@ fn read<T: ParseInteger + Digested>(
     }
 }
 
-// Reads a text by blocks: behind each, what is left of a number goes in front of the next.
+// Reads a text by blocks: the number that a block cuts goes in front of the next block.
 fn read_blocks<T: ParseInteger + Digested>(
     sample: &mut Sample,
     values: &mut [T],

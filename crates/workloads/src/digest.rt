@@ -1,9 +1,10 @@
-//! A number that stands for all that was answered, in its order.
+//! A number that stands for all answers, in their order.
 
 use lexical_parse_integer::Error;
 use std::io::{Result, Write};
 
-/// What was answered so far: two sums, the second one of the first.
+/// The answers so far, as two sums: one of the numbers, and one of the values that the first sum
+/// had.
 #[derive(Drop)]
 pub struct Digest {
     sum: u64,
@@ -11,7 +12,7 @@ pub struct Digest {
 }
 
 impl Digest {
-    /// One of nothing.
+    /// The digest of no answers.
     pub fn new() -> Digest {
         Digest { sum: 1, sums: 0 }
     }

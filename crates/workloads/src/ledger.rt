@@ -1,4 +1,4 @@
-//! The job of gigabytes: the tables of a ledger, whole and by blocks as a file is read.
+//! The job of large files: the tables of a ledger, read whole, and by blocks as from a file.
 
 use crate::digest::Digest;
 use crate::random::Random;
@@ -53,7 +53,7 @@ fn amounts(alloc: Global, random: &mut Random) -> Result<Sample, AllocError> {
     Ok(sample)
 }
 
-// Reads a text by blocks: behind each, what is left of a row goes in front of the next.
+// Reads a text by blocks: the row that a block cuts goes in front of the next block.
 fn read_blocks(
     alloc: Global,
     text: &[u8],

@@ -69,7 +69,8 @@ pub fn run(alloc: Global, passes: usize, seed: u64, digest: &mut Digest) -> Resu
     sample.finish(&mut random)?;
     for _ in 0..passes {
         sample.renew();
-        // They are gathered first: where writes are cut says nothing of what is answered.
+        // The answers are gathered first, so that the digest doesn't depend on where writes are
+        // cut.
         let mut answers = Vec::new(alloc);
         if answer(sample.text(), &mut answers).is_err() {
             digest.take(1);

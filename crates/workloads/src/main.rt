@@ -43,7 +43,7 @@ fn main(rt: HostRuntime) -> ExitCode {
     }
 }
 
-// The digest of what a job is answered. With the name `all` each job is done, one after the other.
+// The digest of a job's answers. With the name `all` each job is done, one after the other.
 fn digest_of(alloc: Global, job: &Job) -> Result<Digest, AllocError> {
     let mut digest = Digest::new();
     if job.is("ledger") {

@@ -7,7 +7,8 @@ pub struct Random {
 }
 
 impl Random {
-    /// One that a seed begins, and a second number, so that each job has its own.
+    /// A generator that starts from a seed and the number of a job, so that each job has its own
+    /// numbers.
     pub fn new(seed: u64, job: u64) -> Random {
         Random {
             state: seed.wrapping_mul(0x100).wrapping_add(job),
@@ -23,13 +24,13 @@ impl Random {
         mixed ^ (mixed >> 31)
     }
 
-    /// One of the numbers below another, and 0 where there is none.
+    /// A number below `bound`, or 0 if `bound` is 0.
     pub fn below(&mut self, bound: u64) -> u64 {
         let number = self.next();
         if bound == 0 { 0 } else { number % bound }
     }
 
-    /// A number from one to another.
+    /// A number from `least` to `most`.
     pub fn between(&mut self, least: usize, most: usize) -> usize {
         let span = most.saturating_sub(least) as u64;
         let chosen = self.below(span.saturating_add(1));
@@ -46,7 +47,7 @@ impl Random {
         }
     }
 
-    /// Whether something is so that is true of `many` in a hundred.
+    /// `true` in `many` of a hundred cases.
     pub fn percent(&mut self, many: u64) -> bool {
         self.below(100) < many
     }

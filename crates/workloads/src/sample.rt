@@ -3,11 +3,11 @@
 use crate::random::Random;
 use std::alloc::{AllocError, Global};
 
-/// How many places among the changes a reading may begin at. No two of that many readings in a row
-/// begin at the same place.
+/// How many places of the list of changes a reading may begin at. Any 4096 readings in a row begin
+/// at different places.
 const BEGINNINGS: usize = 4096;
 
-/// A text, and for each of its bytes 1 where that may change, and 0 elsewhere.
+/// A text, and for each of its bytes 1 if the byte may change, and 0 otherwise.
 #[derive(Drop)]
 pub struct Sample {
     bytes: Vec<u8>,

@@ -31,7 +31,7 @@ fn push_literal(sample: &mut Sample, random: &mut Random) -> Result<(), AllocErr
     }
 }
 
-// Adds what an expression has at its end: a word or a number.
+// Adds an operand: a word or a number.
 fn push_operand(sample: &mut Sample, random: &mut Random) -> Result<(), AllocError> {
     if random.percent(45) {
         let letters = random.between(1, 12);

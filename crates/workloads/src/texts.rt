@@ -41,7 +41,7 @@ fn push_integer(sample: &mut Sample, random: &mut Random) -> Result<(), AllocErr
     sample.push_number(random, digits)
 }
 
-// Adds what stands in a program: a prefix, groups, or digits alone.
+// Adds a literal as programs have it: with a prefix, in groups, or digits alone.
 fn push_literal(sample: &mut Sample, random: &mut Random) -> Result<(), AllocError> {
     match random.below(4) {
         0 => {
@@ -106,7 +106,7 @@ fn push_text(sample: &mut Sample, random: &mut Random, reading: Reading) -> Resu
     }
 }
 
-// Texts by turns of all kinds, and where each stands.
+// Texts of random kinds, and where each stands.
 fn texts(alloc: Global, random: &mut Random, sample: &mut Sample) -> Result<Vec<Text>, AllocError> {
     let mut all = Vec::new(alloc);
     for _ in 0..TEXTS {

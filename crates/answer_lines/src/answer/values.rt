@@ -110,7 +110,7 @@ where
     line_under_as::<T, N>(text, settings.format(), settings.options(), batch)
 }
 
-// That answer under the standard format, which the compiler knows here.
+// The complete answer under the standard format, which the compiler knows here.
 #[inline(never)]
 fn standard_line_as<T, N>(text: &[u8], batch: &mut Batch)
 where
@@ -127,8 +127,8 @@ where
     }
 }
 
-// That answer under a format that a line has set. Each type has one copy of the parser and of what writes its number in
-// here, so that no number goes by way of memory.
+// The complete answer under a format that a line has set. Each type has one copy of the parser here, and of the code
+// that writes its number, so that no number is passed through memory.
 #[inline(never)]
 fn line_under_as<T, N>(text: &[u8], format: &NumberFormat, options: &Options, batch: &mut Batch)
 where

@@ -1,4 +1,4 @@
-// The value of each byte as a hexadecimal digit. What is no digit has one that no eight digits reach together.
+// The value of each byte as a hexadecimal digit. A byte that is no digit has one above the number of any eight digits.
 const NO: u64 = 1 << 32;
 
 #[rattlefmt::skip]

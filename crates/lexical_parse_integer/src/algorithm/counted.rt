@@ -1,4 +1,4 @@
-// The parsers over a cursor: for readers that go on where a number ends, and to promise how few turns a number takes.
+// The parsers over a cursor: for readers that go on where a number ends, and to bound the turns that a number takes.
 // The calls over a text use none of this, except for those of `laws::turns`.
 ghost use Rattle.std.specs.Prelude.{◌≡◌, ◌&&◌, ◌||◌, ◌==◌, Err, IfErr, IfOk, IsTrue, OnOk, is_some, length};
 ghost use Rattle.lexical_parse_integer.specs.Answer.{with_place, view_of};
@@ -55,7 +55,8 @@ fn lacks_digits(c: &Cursor<'_>) -> bool
     c.format().required_digits() && c.digits() == 0
 }
 
-// Whether missing digits are the partial parser's fault: at the text's end, or where separators may stand.
+// Whether missing digits are a fault of the partial parser: reading stops at the text's end, or the format has a
+// separator, with flags or without.
 #[inline(always)]
 fn reports_empty(c: &Cursor<'_>) -> bool
     ensures { result ≡ (is_some c.now.format.digit_separator

@@ -165,8 +165,8 @@ fn zero_before_digit(bytes: &[u8], format: &NumberFormat, head: Head) -> Option<
     }
 }
 
-// The digits in a row from where reading has come, as long as they are so few that no value leaves the type: a step is
-// one look-up, with no test of the value and none for a separator.
+// Reads the digits in a row from where `read` ends, as long as they are so few that no value leaves the type: a step is
+// one look-up, with no test of the value or for a separator.
 #[inline(always)]
 fn read_row<T: Integer>(
     bytes: &[u8],
@@ -207,7 +207,7 @@ fn read_row<T: Integer>(
     Digits { value, count, end }
 }
 
-// The place behind the zeros that a long numeral begins with: they are read as words, since there may be many.
+// The place behind the zeros that a long numeral begins with: they are passed by words, since there may be many.
 #[inline(always)]
 fn behind_zeros(bytes: &[u8], start: usize) -> usize
     requires { start ≤ length bytes.now }
@@ -222,8 +222,8 @@ fn behind_zeros(bytes: &[u8], start: usize) -> usize
     }
 }
 
-// All digits of a numeral, or the fault of the first with which their value leaves the type: a row of digits, and the
-// next digit behind what ends it, again and again.
+// All digits of a numeral, or the fault of the first with which their value leaves the type: reads a row of digits and
+// the next digit behind it, again and again.
 #[inline(always)]
 fn read_digits<T: Integer>(bytes: &[u8], format: &NumberFormat, head: Head) -> Result<Digits<T>>
     requires sound { IsSound
@@ -293,7 +293,8 @@ fn stop_behind(bytes: &[u8], format: &NumberFormat, end: usize, count: usize) ->
     }
 }
 
-// Whether a numeral without a digit is the partial parser's fault: at the text's end, or where separators may stand.
+// Whether a numeral without a digit is a fault of the partial parser: a digit is required, and reading stops at the
+// text's end or the format has a separator, with flags or without.
 #[inline(always)]
 fn is_empty_fault(bytes: &[u8], format: &NumberFormat, count: usize, stop: usize) -> bool
     ensures { result ≡ ((digits_required format.now && (count == 0))
@@ -341,7 +342,8 @@ pub(crate) fn partial_from_front<T: Integer>(
     front_behind::<T>(bytes, format, head)
 }
 
-// The answer for a whole text by that for its front: what the front stands for, if reading stops at the text's end.
+// The answer for a whole text, made from that for its front: what the front stands for, if reading stops at the text's
+// end.
 #[inline(always)]
 fn completion<T: Integer>(bytes: &[u8], front: Result<(T, usize)>) -> Result<T>
     ensures { view_of T.number result

@@ -1,8 +1,8 @@
 // Whole texts under formats with punctuation: digits alone, or decimal digits with a separator before each three, behind a
 // sign and a prefix.
 //
-// As under formats without punctuation, only what is sure is answered: a value that its type has. `None` says nothing: what
-// is left is read from its front.
+// As under formats without punctuation, these readers answer only what is sure: a value that its type has. `None` says
+// nothing of a text: then it is read from its front.
 ghost use Rattle.std.specs.Prelude.{◌≡◌, ◌<◌, ◌||◌, IfSome, IsNone, Some, Ok, false, length, slice_range, true};
 ghost use Rattle.lexical_util.specs.Validity.{fault};
 ghost use Rattle.lexical_parse_integer.specs.Grammar.{complete};
@@ -74,8 +74,8 @@ fn value_behind<T: Integer>(bytes: &[u8], format: &NumberFormat, head: Head) -> 
     }
 }
 
-// Whether a separator surely stands elsewhere than before each three digits: among the last three bytes, or before the last
-// four. One before the last three is looked for first.
+// Whether separators surely don't stand before each three digits: one is among the last three bytes, or before the last
+// four. One before the last three is looked for first, and then the answer is no.
 #[inline(always)]
 pub(super) fn is_parted_otherwise(bytes: &[u8], separator: u8) -> bool {
     let n = bytes.len();
@@ -119,7 +119,7 @@ fn value_of_parted<T: Integer>(
 {
     let digits = &bytes[head.start..];
     if head.radix != 10 {
-        // Only digits that stand alone are read here: those in groups are read from the left at once.
+        // Only digits without separators are read here: those in groups are read from the front, without another try.
         if is_parted_otherwise(bytes, separator) {
             return None;
         }
@@ -135,8 +135,8 @@ fn value_of_parted<T: Integer>(
     value_of_threes::<T>(digits, format, separator, head.is_negative)
 }
 
-// The head of a text whose sign was read and has more behind it. `None` says nothing: there is a prefix alone, or a zero in
-// front of more that the format forbids.
+// The head of a text whose sign has been read, and is followed by a byte. `None` says nothing of the text: a prefix is
+// all that follows, or a zero in front of more bytes, under a format that forbids leading zeros.
 #[inline(always)]
 fn head_of_digits<T: Integer>(
     bytes: &[u8],

@@ -1,5 +1,5 @@
-// What the whole text stands for: its value by the reader for the format's kind, where `None` says nothing, and the answer
-// for what these readers leave.
+// What the whole text stands for: its value, by the reader for the format's kind, whose `None` says nothing of the
+// text, and the answer for what these readers don't read.
 ghost use Rattle.std.specs.Prelude.{◌≡◌, ◌<◌, ◌≤◌, Err, IfSome, IsNone, IsTrue, Ok, Some, length};
 ghost use Rattle.lexical_util.specs.Format.{standard};
 ghost use Rattle.lexical_util.specs.Validity.{fault};
@@ -22,8 +22,8 @@ use lexical_util::format::{self, NumberFormat};
 use lexical_util::num::Integer;
 use lexical_util::result::Result;
 
-/// The integer that the whole text stands for under a valid format, where the reader for the format's kind has it at once:
-/// of digits alone behind a sign and a prefix, or of decimal digits in groups of three.
+/// The integer that the whole text stands for, if the format is valid and the fast reader for its kind reads the text:
+/// digits alone behind a sign and a prefix, or decimal digits in groups of three.
 ///
 /// `None` says nothing of the text.
 #[inline(always)]
@@ -67,8 +67,8 @@ fn long_decimal<T: Integer>(
     }
 }
 
-// The fault of a text behind whose sign a byte stands that is no digit, before there are too many; or 0, where nothing stands
-// there, and no digit is asked for.
+// The fault of a text where a byte that is no digit stands behind the sign, or behind fewer digits than could leave the
+// type; or the value 0, where nothing stands behind the sign, and no digit is asked for.
 #[inline(always)]
 fn short_decimal<T: Integer>(
     bytes: &[u8],
@@ -111,8 +111,8 @@ fn complete_decimal<T: Integer>(bytes: &[u8], format: &NumberFormat) -> Result<T
     short_decimal::<T>(bytes, format, is_negative, start)
 }
 
-// Room for what a call answers through memory is cleared where the function begins that makes it: so two such calls stand in
-// functions of their own.
+// A function clears, at its beginning, the memory that its calls return values through. So each of these two calls
+// stands in a function of its own.
 #[inline(always)]
 fn fault_of_many<T: Integer>(bytes: &[u8]) -> Option<Error>
     requires some { 1 ≤ length bytes.now }
@@ -128,8 +128,9 @@ fn standard_answer<T: Integer>(bytes: &[u8]) -> Result<T>
     complete_decimal::<T>(bytes, &format::STANDARD)
 }
 
-// By calls that know the format: each answers in registers.
-/// The integer that the whole text stands for under the standard format, for a text that `value_for_format` has left.
+// The calls below know the format, and return in registers.
+/// The integer that the whole text stands for under the standard format, for a text that `value_for_format` doesn't
+/// read.
 #[inline(always)]
 pub fn complete_standard<T: Integer>(bytes: &[u8]) -> Result<T>
     ensures { view_of T.number result ≡ complete standard T.TYPE bytes.now }
@@ -150,8 +151,8 @@ pub fn complete_standard<T: Integer>(bytes: &[u8]) -> Result<T>
     }
 }
 
-// A function that makes a call for a `Result` clears room for it where it begins. So a value is had first, in registers, and
-// each such call on the way to one stands in a function of its own.
+// A function that makes a call for a `Result` clears memory for it at its beginning. So a value is looked for first, in
+// registers, and each call that returns a `Result` stands in a function of its own.
 #[inline(always)]
 fn decimal_answer<T: Integer>(bytes: &[u8], format: &NumberFormat) -> Result<T>
     requires plain { IsPlain format.now }
@@ -168,8 +169,8 @@ fn front_answer<T: Integer>(bytes: &[u8], format: &NumberFormat) -> Result<T>
     complete_from_front::<T>(bytes, format)
 }
 
-// The complete answer under a decimal format without punctuation, for a text on which `value_if_short` gave up: a short one is
-// mostly at fault then, and of a long one the value is had in registers.
+// The complete answer under a decimal format without punctuation, for a text on which `value_if_short` gave up: then a
+// short text is mostly at fault, and a long one is first read for its value, in registers.
 #[inline(always)]
 fn decimal_rest<T: Integer>(bytes: &[u8], format: &NumberFormat) -> Result<T>
     requires plain { IsPlain format.now }
@@ -209,8 +210,8 @@ fn punctuated_rest<T: Integer>(bytes: &[u8], format: &NumberFormat) -> Result<T>
     }
 }
 
-/// The integer that the whole text stands for under a format that may be invalid, for a text that `value_if_short` has
-/// left: it isn't read as short decimal digits again.
+/// The integer that the whole text stands for under a format that may be invalid, for a text on which `value_if_short`
+/// gave up: it isn't read as short decimal digits again.
 #[inline(always)]
 #[tactic(auto, using(crate::proofs::plain::DigitsAlone::valid_answer))]
 pub fn complete_if_valid<T: Integer>(bytes: &[u8], format: &NumberFormat) -> Result<T>
@@ -225,8 +226,8 @@ pub fn complete_if_valid<T: Integer>(bytes: &[u8], format: &NumberFormat) -> Res
     punctuated_rest::<T>(bytes, format)
 }
 
-/// The integer that the whole text stands for under a valid format, for a text on which `value_if_short` gave up. Groups that
-/// aren't of three are read from the front at once.
+/// The integer that the whole text stands for under a valid format, for a text on which `value_if_short` gave up.
+/// Groups that aren't of three are read from the front, without another try.
 #[inline(always)]
 #[tactic(auto, using(crate::proofs::plain::DigitsAlone::valid_answer))]
 pub fn complete_valid<T: Integer>(bytes: &[u8], format: &NumberFormat) -> Result<T>

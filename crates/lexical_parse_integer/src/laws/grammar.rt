@@ -1,4 +1,4 @@
-//! What the definitions of the grammar come to, over every format, type and text.
+//! What follows from the definitions of the grammar, for every format, type and text.
 //!
 //! These calls do nothing. A proof that needs one of these laws calls it and has its clauses.
 ghost use Rattle.std.specs.Prelude.{◌≡◌, ◌≢◌, ◌<◌, ◌≤◌, ◌⊎◌, true, Bool, List, length, slice_get, IfErr, IsNone, Ok, Some, ℕ, ℤ};
@@ -77,7 +77,8 @@ pub fn front_end()
         → partial format type text ≡ Ok (value, place) → 0 < place }
 {}
 
-/// A front that is read as one type is read alike as a wider one, where both have numbers below 0 or neither has.
+/// A front that is read as one type is read in the same way as a wider one, where both have numbers below 0 or neither
+/// has.
 ///
 /// So a reader may try 64 bits first. `12x` is 12 up to place 2 as `u8`, and so it is as `u128`.
 pub fn wider_types()
@@ -96,8 +97,8 @@ pub fn front_digits()
         → IsNone format.digit_separator → IsNone format.base_suffix → TellsDigits format type text }
 {}
 
-/// Under a valid format without a separator byte, a partial answer that is settled at a place is
-/// that of each text with the same bytes up to and with it.
+/// Under a valid format without a separator byte, a partial answer that is settled at a place is that of each text with
+/// the same bytes up to and including that place.
 pub fn locality()
     ensures { (format : Format) (type : IntegerType)
         → IsNone (fault format) → IsNone format.digit_separator → IsLocal format type }

@@ -74,8 +74,8 @@ pub(crate) struct LastRow<'a> {
     pub behind: Left<'a>,
 }
 
-// The number of the last row that may be read without a look at what stands behind a row: where empty rows are skipped, such
-// may stand there.
+// The number of the last row that may be read without a look at what stands behind a row. Where empty rows are skipped,
+// this is the row `index`, since empty rows may stand behind it.
 #[inline(always)]
 pub(crate) fn last_at_once(index: usize, rows: usize, dialect: &Dialect<'_>) -> usize
     requires more { index < rows }

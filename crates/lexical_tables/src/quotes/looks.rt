@@ -15,8 +15,8 @@ pub(crate) struct Look {
     pub is_within: bool,
 }
 
-// Which bytes stand outside quotes, a bit for each, by the quotes among them and whether an odd number of these stands up to
-// each.
+// Which bytes stand outside quotes, a bit for each. `quotes` marks the quotes among them, and `odd` the places up to
+// which the number of quotes is odd.
 #[inline(always)]
 pub(crate) fn outside_marks(quotes: u64, odd: u64, is_within: bool) -> u64
     ensures within { is_within ≡ true → (k : ℕ) → k < 64

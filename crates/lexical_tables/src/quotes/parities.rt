@@ -1,4 +1,4 @@
-// Whether an odd number of marks stands up to a place.
+// Parities: for each place, whether the number of marks up to it is odd.
 ghost use Rattle.std.specs.Prelude.{◌≡◌, ◌+◌, ◌%◌, ◌<◌, ℕ};
 ghost use Rattle.std.specs.Int.{bit_at};
 ghost use Rattle.lexical_tables.specs.Looks.{bits_below};
@@ -14,8 +14,8 @@ fn with_marks_below(marks: u64, by: u32) -> u64
     marks ^ (marks << by)
 }
 
-// Whether an odd number of marks stands up to a place, that counted, a bit for each of the first sixteen. By steps: among
-// two, four and eight marks up to each place, and then among sixteen, since these are the sums of two halves.
+// Bit k is the parity of the marks at 0 to k, for k below 16. After the steps by 1, 2, 4 and 8 it is the parity of the
+// last 2, 4, 8 and 16 marks up to k.
 #[inline(always)]
 pub(crate) fn odd_to_16(marks: u64) -> u64
     ensures { (k : ℕ) → k < 16 → bit_at result k ≡ bits_below marks (k + 1) % 2 }
@@ -26,7 +26,7 @@ pub(crate) fn odd_to_16(marks: u64) -> u64
     with_marks_below(of_eight, 8)
 }
 
-// Whether an odd number of marks stands up to a place, that counted, a bit for each of 64: by two steps more.
+// Bit k is the parity of the marks at 0 to k, for k below 64: by two more steps.
 #[inline(always)]
 pub(crate) fn odd_to_64(marks: u64) -> u64
     ensures { (k : ℕ) → k < 64 → bit_at result k ≡ bits_below marks (k + 1) % 2 }

@@ -104,7 +104,7 @@ pub(super) const STANDARD_FIELDS: Fields = Fields {
 };
 
 impl Fields {
-    // Whether they set punctuation, or ask for a sign: one test of all.
+    // Whether the fields set punctuation, or ask for a sign, by one test of all.
     #[inline(always)]
     pub(super) fn is_punctuated(&self) -> bool
         ensures { result ≡ is_punctuated self.now }
@@ -117,8 +117,8 @@ impl Fields {
             | self.required_mantissa_sign
     }
 
-    // Whether fields with a separator are surely valid: they are decimal, have no prefix of their own and no suffix, and no
-    // letter stands between digits where letters make literal prefixes.
+    // Whether fields with a separator are surely valid: they are decimal, have no prefix of their own and no suffix,
+    // and the separator is no letter if there are literal prefixes.
     #[inline(always)]
     pub(super) fn is_valid_with_separator(&self, separator: u8) -> bool
         requires { self.now.digit_separator ≡ Some separator }
@@ -133,8 +133,8 @@ impl Fields {
         separator < b'0' && separator != b'+' && separator != b'-'
     }
 
-    // Whether fields without separator are surely valid: they have no suffix, and they are decimal without a prefix of their
-    // own, or have one beside hexadecimal digits, or none beside those of any radix.
+    // Whether fields without a separator are surely valid. They have no suffix. Without a prefix of their own the radix
+    // is 10, or there are no literals; with one the radix is 16, there are no literals, and the prefix is above `f`.
     #[inline(always)]
     pub(super) fn is_valid_without_separator(&self) -> bool
         requires { self.now.digit_separator ≡ None }
@@ -178,7 +178,7 @@ impl Fields {
         }
     }
 
-    // Whether literal prefixes or octal zeros are asked for where they can't be told apart.
+    // Whether literal prefixes or octal zeros are asked for beside a radix or punctuation that doesn't allow them.
     #[inline(always)]
     fn has_unfit_literals(&self) -> bool
         ensures { result ≡ has_unfit_literals self.now }

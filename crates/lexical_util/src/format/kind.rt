@@ -5,7 +5,7 @@ ghost use Rattle.lexical_util.specs.Kind.{is_punctuated, kind_of};
 
 use super::content::Fields;
 
-/// What kind of texts a format admits, as far as a parser asks before it reads.
+/// What kind of texts a format admits, as far as a parser has to know before it reads.
 #[derive(Debug, Copy, Clone, PartialEq, Eq)]
 pub enum FormatKind {
     /// A valid format of radix 10, without punctuation: digits behind an optional sign.
@@ -19,7 +19,7 @@ pub enum FormatKind {
 }
 
 impl Fields {
-    // The kind of a format with these fields: by few tests, and by all rules where these aren't sure.
+    // The kind of a format with these fields: by a few tests, and by all rules where these tests don't decide it.
     #[inline(always)]
     pub(super) fn kind(&self) -> FormatKind
         ensures { result ≡ kind_of self.now }
@@ -72,7 +72,7 @@ impl Fields {
         }
     }
 
-    // The kind of a format without all that: it can break the rule on its radix alone.
+    // The kind of a format with neither punctuation nor a required sign: it can only break the rule on its radix.
     #[inline(always)]
     #[tactic(auto, using(crate::proofs::FormatKinds::decimal_kind, crate::proofs::FormatKinds::plain_kind, crate::proofs::FormatKinds::outside_kind))]
     fn bare_kind(&self) -> FormatKind

@@ -1,4 +1,4 @@
-// The tests that a format's validity hangs on.
+// The tests that decide whether a format is valid.
 
 ghost use Rattle.std.specs.Prelude.{◌≡◌};
 ghost use Rattle.lexical_util.specs.Digit.{IsRadix};

@@ -34,7 +34,7 @@ fn column_of(text: &[u8], separator: u8, format: &NumberFormat) -> (Answer, [u64
     (answer, room)
 }
 
-// What is read so of a part of a text between commas.
+// The same for a part of a text, between commas under the standard format.
 fn column_of_part(part: &[u8], is_last: bool) -> (Answer, [u64; 2]) {
     let mut room = [9; 2];
     let options = &options::STANDARD;

@@ -1,4 +1,4 @@
-// Runs over readers, writers and buffers that refuse: what no built program can be asked for.
+// Runs over readers, writers and buffers that refuse: what a built program can't be made to meet.
 
 mod devices;
 mod memory;
@@ -33,8 +33,8 @@ fn repeated(alloc: Global, piece: &[u8], times: usize) -> Result<Vec<u8>, AllocE
     Ok(bytes)
 }
 
-// A run over these devices has this answer. It writes the block's bytes alone, by `writes` writes.
-// `flushed` of these bytes stand before the flush, which comes last; 0 is no flush.
+// A run over these devices has this answer. It writes only the block's bytes, by `writes` writes.
+// `flushed` of them are written before the flush, which comes last; 0 means that there is no flush.
 fn ends(
     rt: &impl Abort,
     alloc: Global,

@@ -49,7 +49,7 @@ fn read(text: &[u8], has_returns: bool) -> (Answer, [i16; 3]) {
     read_under(text, &pairs(has_returns))
 }
 
-// The same of a table that is written so.
+// The same for a table with this dialect.
 fn read_under(text: &[u8], dialect: &Dialect<'_>) -> (Answer, [i16; 3]) {
     let mut numbers = [9; 3];
     let mut target = Some(Target {
@@ -291,7 +291,7 @@ fn a_part_has_whole_rows(rt: HostRuntime) {
     answers(&rt, column, [1, 9, 9]);
 }
 
-// A column of a user's own, which hands on to a target, and doesn't write `read_at_once`.
+// A user's own column, which passes calls on to a target, and doesn't write `read_at_once`.
 #[derive(Drop)]
 struct Own<'a> {
     inner: Option<Target<'a>>,
@@ -332,7 +332,7 @@ impl TableColumn for Own<'_> {
     }
 }
 
-// What is read of a text's first column by a column of one's own, and its numbers, in room for six rows.
+// What is read of a text's first column by a user's own column, and its numbers, in room for six rows.
 fn read_by_own(text: &[u8]) -> (Answer, [i64; 6]) {
     let mut numbers = [9; 6];
     let mut own = Own {
@@ -347,7 +347,7 @@ fn read_by_own(text: &[u8]) -> (Answer, [i64; 6]) {
     (answer, numbers)
 }
 
-// Short and long cells, and such as aren't read at once. Behind the first ones many bytes follow, and few behind the last.
+// Short and long cells, and cells that the fast path leaves. Many bytes follow the first cells, and few the last ones.
 #[test]
 fn a_column_of_ones_own_reads_all_cells(rt: HostRuntime) {
     let text =

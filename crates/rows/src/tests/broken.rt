@@ -68,7 +68,7 @@ pub(super) fn first_broken(format: &NumberFormat) -> Option<Error> {
 
 const RADIXES: [u8; 8] = [0, 1, 2, 10, 16, 36, 37, 255];
 
-// A byte of these that is `n` stands for none.
+// `n` among these bytes stands for no byte.
 const PUNCTUATION: [u8; 9] = *b"n_xXa5-\0\xc8";
 
 // How many formats there are: of each radix, separator, prefix and suffix, with literal prefixes and without, and with

@@ -6,8 +6,8 @@ use lexical_parse_integer::options::{LARGE_NUMBERS, SMALL_NUMBERS};
 use lexical_parse_integer::{FromLexicalWithOptions, NumberFormat, Options, Result};
 use std::process::Abort;
 
-// An integer type: how many bits it has, whether it is signed, and whether it is `usize` or `isize`. All this is known
-// from outside of the crates.
+// An integer type: how many bits it has, whether it is signed, and whether it is `usize` or `isize`. These are written
+// here, and not taken from the crates under test.
 pub(super) type Kind = (u32, bool, bool);
 
 pub(super) const U8: Kind = (8, false, false);
@@ -83,7 +83,7 @@ fn answers(kind: Kind, text: &[u8], format: &NumberFormat, options: Option<Optio
     }
 }
 
-// What the reference has both parsers answer.
+// What both parsers have to answer, by the reference.
 fn expected(kind: Kind, text: &[u8], format: &NumberFormat) -> Answers {
     if let Some(fault) = first_broken(format) {
         return (Err(fault), Err(fault));

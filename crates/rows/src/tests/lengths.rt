@@ -1,5 +1,5 @@
-// Texts of digits alone, at both ends of each range of lengths that are read in a way of their own, with one other byte
-// at each place. The reference says what they stand for.
+// Texts of digits alone, at both ends of each range of lengths that has a reader of its own, with one other byte at
+// each place. The reference says what they stand for.
 use super::compare::{I32, I64, KINDS, Kind, U64, agrees};
 use super::formats::{
     INTERNAL, LITERAL_PREFIXES, NO_LEADING_ZEROS, NO_PLUS, PREFIX, SEPARATOR, SIGN_REQUIRED,

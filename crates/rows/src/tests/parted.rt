@@ -51,7 +51,7 @@ fn of_length(rt: &impl Abort, kind: Kind, format: &NumberFormat, head: &[u8], le
     }
 }
 
-// Each setting of three flags, beside the fields.
+// Each setting of three flags, together with these fields.
 fn flagged(rt: &impl Abort, kind: Kind, radix: u8, fields: u32, head: &[u8]) {
     for number in 0..8 {
         let format = format_of(radix, fields | SEPARATOR | setting(number));

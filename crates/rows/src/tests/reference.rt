@@ -38,7 +38,7 @@ struct Numeral {
     end: usize,
 }
 
-// What both parsers find where no fault of theirs is first.
+// What both parsers find, if none of the faults that both have comes first.
 #[derive(Drop)]
 pub(super) struct Reading {
     number: Number,
@@ -233,7 +233,7 @@ impl Numeral {
         Some(sum)
     }
 
-    // The place of the first digit with which the number is beyond the greatest one.
+    // The place of the first digit with which the number exceeds the greatest one.
     fn beyond(&self, radix: u32, greatest: u128) -> Option<usize> {
         let count = (1..=self.count).find(|count| match self.front(*count, radix) {
             Some(sum) => sum > greatest,

@@ -58,7 +58,7 @@ fn with_separators(rt: &impl Abort, radix: u8, fields: u32, bytes: &Bytes) {
     }
 }
 
-// Where there is no separator, digits are taken by words: of four here, and a byte before or behind it.
+// Without a separator, digits are read by words: here by words of four, with a byte before or behind them.
 fn without_separators(rt: &impl Abort, radix: u8, fields: u32, bytes: &Bytes) {
     let format = format_of(radix, fields);
     up_to(rt, I8, &format, bytes, 4);

@@ -11,7 +11,7 @@ use crate::cursor::Cursor;
 use lexical_util::num::Integer;
 use lexical_util::result::Result;
 
-// Takes digits while there are fewer than `most`: no number of `most` digits leaves the type, so no step
+// Takes up to `most` digits, counted from the numeral's first: no number of `most` digits leaves the type, so no step
 // is tested.
 #[inline(always)]
 pub(crate) fn read_untested<T: Integer>(

@@ -112,7 +112,7 @@ fn try_parse_word<T: Integer>(c: &mut Cursor<'_>) -> Option<T>
     word
 }
 
-// What the number of the digits before a word is multiplied by.
+// What the number of the digits before a word is multiplied by to append the word.
 #[inline(always)]
 #[tactic(auto, unfolding(crate::specs::Turns::digits_per_word))]
 fn word_scale<T: Integer>(radix: u32) -> T
@@ -127,7 +127,7 @@ fn word_scale<T: Integer>(radix: u32) -> T
     }
 }
 
-// Whether one more word of digits behind the first `digits` makes no more than `most`.
+// Whether one more word behind the first `digits` digits makes at most `most`.
 #[inline(always)]
 #[tactic(auto, unfolding(crate::specs::Turns::digits_per_word))]
 fn has_room<T: Integer>(digits: usize, most: usize) -> bool

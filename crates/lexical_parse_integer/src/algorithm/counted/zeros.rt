@@ -14,7 +14,7 @@ use lexical_util::error::Error;
 use lexical_util::num::Integer;
 use lexical_util::result::Result;
 
-// Whether another digit follows. Where separators may stand before it, it is taken.
+// Whether another digit follows. If the format has a separator, that digit is taken.
 #[inline(always)]
 fn has_more(c: &mut Cursor<'_>) -> bool
     requires open { c.old.closed ≡ false }

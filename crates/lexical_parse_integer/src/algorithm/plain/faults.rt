@@ -1,4 +1,4 @@
-// Faults of decimal texts under formats without punctuation: most faults. And numbers of many digits there.
+// Faults of decimal texts under formats without punctuation, which most faults are. And numbers of many digits there.
 //
 // `None` says nothing. Each is a call of its own, so that texts without a fault need no stack frame.
 ghost use Rattle.std.specs.Prelude.{◌≡◌, ◌≢◌, ◌<◌, ◌≤◌, true, Err, IfSome, IsNone, Ok, get_or, length, slice_index, take};
@@ -23,8 +23,8 @@ use lexical_util::format::{self, NumberFormat};
 use lexical_util::num::Integer;
 use lexical_util::result::Result;
 
-// How many digits a text begins with if there are at most `most`, and else a number above `most`.
-// Words of digits are counted, and their numbers ignored.
+// How many digits a text begins with, if there are at most `most`, and otherwise some number above `most`. Digits are
+// counted by words, whose numbers are ignored.
 #[inline(always)]
 fn digits_in_front(text: &[u8], most: usize) -> usize
     requires some { 1 ≤ length text.now }
@@ -47,8 +47,8 @@ fn digits_in_front(text: &[u8], most: usize) -> usize
     count
 }
 
-// The place at which reading stops, if no digit stands behind the sign, or if another byte follows
-// digits that are few enough for the type, whatever they are.
+// The place at which reading stops, if no digit stands behind the sign, or if another byte follows digits so few that
+// any number of that length fits the type.
 #[inline(always)]
 pub(in crate::algorithm) fn place_after_digits<T: Integer>(
     bytes: &[u8],
@@ -143,7 +143,7 @@ pub(in crate::algorithm) fn answer_after_digits<T: Integer>(
     Some(Ok(value))
 }
 
-// The place of such a text under the standard format.
+// The place that `place_after_digits` finds, under the standard format.
 #[inline(never)]
 pub(in crate::algorithm) fn place_after_few<T: Integer>(bytes: &[u8]) -> Option<usize>
     ensures byte { IfSome result (λ place. place < length bytes.now
@@ -157,8 +157,8 @@ pub(in crate::algorithm) fn place_after_few<T: Integer>(bytes: &[u8]) -> Option<
     place_after_digits::<T>(bytes, &format::STANDARD, is_negative, start)
 }
 
-// The fault of a text under the standard format that has more digits than its type has surely room for, and no zero in front:
-// many zeros are read faster from the front.
+// The fault of a text under the standard format that has more digits than its type surely has room for, and doesn't
+// begin with a zero: many zeros are read faster from the front.
 #[inline(never)]
 pub(in crate::algorithm) fn fault_after_many<T: Integer>(bytes: &[u8]) -> Option<Error>
     requires some { 1 ≤ length bytes.now }

@@ -57,8 +57,8 @@ pub(super) fn front_after_first<T: Integer>(
     }
 }
 
-// The value of the digits in front where the first sixteen are digits: of up to twenty-three, and none of a type that
-// has no such numbers.
+// The value of the digits in front where the first sixteen bytes are digits. There may be up to twenty-three. For a
+// type of at most 32 bits the answer is `None`.
 #[inline(never)]
 fn front_after_second<T: Integer>(
     digits: &[u8],

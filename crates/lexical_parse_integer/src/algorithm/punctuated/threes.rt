@@ -11,7 +11,7 @@ use lexical_digits::words::is_4digits;
 use lexical_util::format::NumberFormat;
 use lexical_util::num::Integer;
 
-// How many digits seem to stand before the first separator: a guess by the length and by two bytes.
+// How many digits probably stand before the first separator: a guess from the length and from two bytes.
 #[inline(always)]
 fn guess_of_first(bytes: &[u8], separator: u8) -> usize
     requires { 1 ≤ length bytes.now }
@@ -29,8 +29,8 @@ fn guess_of_first(bytes: &[u8], separator: u8) -> usize
     if few == 0 { n } else { few }
 }
 
-// The number of a separator and three digits in four bytes: with a digit 0 in the separator's stead they are digits of
-// one word.
+// The number of the three digits behind a separator: with a digit 0 in the place of the separator, the four bytes are
+// one word of digits.
 #[inline(always)]
 fn group_value(separator: u8, first: u8, second: u8, third: u8) -> Option<u32>
     ensures first { IfSome result (λ number. digit 10 first ≡ Some (first - digit_zero)) }
@@ -72,7 +72,7 @@ fn three_at(bytes: &[u8], place: usize, separator: u8) -> Option<u32>
     group_value(t[0], t[1], t[2], t[3])
 }
 
-// The value with three digits more, where the type has it.
+// The value with three more digits, where the type has it.
 #[inline(always)]
 fn with_three<T: Integer>(value: T, three: u32, is_negative: bool) -> Option<T>
     requires bits { 32 ≤ T.TYPE.bits }
@@ -85,7 +85,8 @@ fn with_three<T: Integer>(value: T, three: u32, is_negative: bool) -> Option<T>
     value.checked_mul_add(T::from_u32(1000), T::from_u32(three), is_negative)
 }
 
-// The value of digits that stand so, with a minus where `is_negative`. Out of line, so that few digits need no stack frame.
+// The value of digits with a separator before each three, with a minus where `is_negative`. Out of line, so that few
+// digits need no stack frame.
 #[inline(never)]
 pub(super) fn value_of_threes<T: Integer>(
     bytes: &[u8],

@@ -5,7 +5,7 @@ use std::alloc::AllocError;
 use std::io::{Error, ErrorKind, Read, Result, Write};
 
 /// Gives at most `most` bytes a call, each time after `interruptions` interrupted calls. It refuses
-/// one read, once it has given `good` bytes: a second try would be given the others.
+/// one read, once it has given `good` bytes: a second try would get the rest.
 #[derive(Drop)]
 pub struct Reader<'a> {
     bytes: &'a [u8],
@@ -50,9 +50,9 @@ impl Read for Reader<'_> {
     }
 }
 
-/// Compares what it is given with a block of bytes that comes again and again, keeps none of it,
-/// and counts. It takes at most `most` bytes a call, and refuses one write, the one after `good` of
-/// them, or the first flush. A second try would be taken.
+/// Compares what is written with a block of bytes repeated without end, counts it, and keeps none
+/// of it. It takes at most `most` bytes a call, and refuses one write, the one after `good` writes,
+/// or the first flush. A second try would succeed.
 #[derive(Drop)]
 pub struct Writer<'a> {
     block: &'a [u8],
@@ -125,7 +125,7 @@ impl Write for Writer<'_> {
     }
 }
 
-/// Refuses the growth after `left` of them.
+/// Refuses every growth after the first `left`.
 #[derive(Drop)]
 pub struct RefusingBuffer {
     pub held: Vec<u8>,

@@ -1,5 +1,5 @@
-// Callers that pin the words of contracts: each says in plain terms what follows from a word, so that a word that said
-// less would leave its caller without a proof.
+// Callers that pin what the words of contracts mean: each states what follows from a word, so that its proof would fail
+// if the word meant less.
 ghost use Rattle.std.specs.Prelude.{◌≡◌, ◌+◌, ◌≤◌, false, IfSome, IsNone, length, None, Some, take, ℕ};
 ghost use Rattle.lexical_parse_integer.specs.Runs.{digit_at};
 ghost use Rattle.lexical_util.specs.Validity.{fault};

@@ -1,5 +1,5 @@
-// How many turns a parse takes. The numbers stand in contracts and lemmas, which the check proves for the texts at hand
-// (proofs/WorkedTurns.antt); a run shows the answers alone.
+// How many turns a parse takes. Contracts and lemmas have the numbers, which the check proves for these texts
+// (proofs/WorkedTurns.antt). A run shows only the answers.
 ghost use Rattle.std.specs.Prelude.{◌≡◌, IsNone, OnOk, false};
 ghost use Rattle.lexical_util.specs.Validity.{fault};
 ghost use Rattle.lexical_parse_integer.specs.Turns.{AsksWords, HasFewTurns};
@@ -23,7 +23,7 @@ fn complete<T: Integer>(text: &'static [u8], format: &NumberFormat) -> (Result<T
     (answer, c)
 }
 
-// Reads the front of a text so.
+// Reads the front of a text by words of digits; the cursor has the turns.
 fn partial<T: Integer>(
     text: &'static [u8],
     format: &NumberFormat,
@@ -37,7 +37,7 @@ fn partial<T: Integer>(
     (answer, c)
 }
 
-// At the fault of a sign there is none.
+// A fault of the sign takes no turn.
 #[tactic(auto, unfolding(lexical_parse_integer::specs::Computed::grammar))]
 fn refused_plus() -> (Result<i32>, Cursor<'static>)
     ensures { result.1.turns ≡ 0 }
@@ -65,7 +65,7 @@ fn three_one_by_one() -> (Result<(u8, usize)>, Cursor<'static>)
     (answer, c)
 }
 
-// The answers alone: what is known of a cursor weighs on each call behind it.
+// Only the answers: what is known of a cursor slows the proof of each call behind it.
 fn answers_in_turns() -> (Result<u32>, Result<(i32, usize)>) {
     (
         complete::<u32>(b"12345678", &STANDARD).0,

@@ -29,7 +29,7 @@ fn tests_of(fault: &Error) -> [bool; 13] {
     ]
 }
 
-// The fault has this place, and of the thirteen tests the one of this number alone holds.
+// The fault has this place, and of the thirteen tests only the one with this number holds.
 fn is_of(rt: &impl Abort, fault: Error, place: Option<usize>, variant: usize) {
     let mut want = [false; 13];
     if let Some(holds) = want.get_mut(variant) {
@@ -66,7 +66,7 @@ fn text_of<A: Allocator>(alloc: A, fault: &Error) -> Result<String<A>, AllocErro
     fault.to_string(alloc)
 }
 
-// A caller of many crates' errors has it by a bound.
+// A caller that handles errors of many crates gets the text by a bound.
 fn message_of<A: Allocator, E: error::Error>(alloc: A, e: &E) -> Result<String<A>, AllocError> {
     format!(in alloc; "{e}")
 }

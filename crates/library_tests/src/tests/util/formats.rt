@@ -29,7 +29,7 @@ fn flags_of(format: &NumberFormat) -> [bool; FLAGS] {
     ]
 }
 
-// Of the flags the one of this number alone is set.
+// Of the flags, only the one with this number is set.
 fn has_one_flag(rt: &impl Abort, builder: NumberFormatBuilder, number: usize) {
     let mut want = [false; FLAGS];
     if let Some(flag) = want.get_mut(number) {

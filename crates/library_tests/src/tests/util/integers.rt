@@ -15,7 +15,7 @@ fn room<T: Integer>(radix: u32) -> usize
     T::overflow_digits(radix)
 }
 
-// That of each of the twelve types.
+// `overflow_digits` of each of the twelve types.
 fn rooms(radix: u32) -> [usize; 12]
     requires { IsRadix radix }
 {

@@ -1,4 +1,4 @@
-// A caller's own options, by the bound that parsers ask of them.
+// A caller's own options, used by the bound that parsers require.
 
 use crate::tests::answers;
 use lexical_util::options::ParseOptions;
