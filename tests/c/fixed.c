@@ -74,6 +74,8 @@ static void descriptions(void)
     jadvolni_fixed wrong = exact;
     wrong.places = 39;
     CHECK(jadvolni_fixed_error(&wrong) == JADVOLNI_INVALID_PLACES);
+    EXPECT(jadvolni_parse_i64_fixed, int64_t, wrong, "1", JADVOLNI_INVALID_PLACES, 0, 77);
+    EXPECT(jadvolni_parse_u8_fixed_front, uint8_t, wrong, "x", JADVOLNI_INVALID_PLACES, 0, 77);
     wrong.point = '-';
     CHECK(jadvolni_fixed_error(&wrong) == JADVOLNI_INVALID_POINT);
     wrong.integer.literal_octal_zero = 1;

@@ -63,6 +63,25 @@ fn bad_rows_are_skipped(rt: HostRuntime) {
 }
 
 #[test]
+fn a_bad_row_takes_no_room(rt: HostRuntime) {
+    let (first, numbers, _) = read(b"x\n1\n2\n3", true);
+    answers(&rt, (first.rows, first.bad_rows, first.stop), (2, 1, 6));
+    answers(&rt, numbers, [1, 2]);
+    let mut numbers = [9; 4];
+    let mut bad: [BadRow; 0] = [];
+    let mut target = Some(Target {
+        format: STANDARD,
+        numbers: Numbers::I16(&mut numbers),
+        present: None,
+    });
+    let targets = slice::from_mut(&mut target);
+    let text = b"1\n2\nx\n3\n4";
+    let third = read_columns_skipping(text, &lines(), &options::STANDARD, 3, targets, &mut bad);
+    answers(&rt, (third.rows, third.bad_rows, third.stop), (3, 1, 8));
+    answers(&rt, numbers, [1, 2, 3, 9]);
+}
+
+#[test]
 fn a_row_that_a_part_cuts_is_left(rt: HostRuntime) {
     let (read, numbers, bad) = read(b"7\n8,\n6", false);
     answers(&rt, (read.rows, read.bad_rows, read.stop), (1, 1, 5));
@@ -76,4 +95,10 @@ fn rows_have_places(rt: HostRuntime) {
     let first = RowPlace { start: 1, stop: 4 };
     answers(&rt, row_place(text, &lines(), 0), Some(first));
     answers(&rt, row_place(text, &lines(), 2), None);
+    let narrow = Dialect {
+        layout: Layout::Records { widths: &[0] },
+        ..lines()
+    };
+    let second = RowPlace { start: 1, stop: 2 };
+    answers(&rt, row_place(b"12", &narrow, 1), Some(second));
 }

@@ -95,6 +95,7 @@ fn columns_in_room_for_two(rt: HostRuntime) {
         (column(2, 5), [12, 25]),
     );
     answers(&rt, whole_fields(b"1,23", b','), 2);
+    answers(&rt, whole_fields(b"1,+2", b','), 2);
 }
 
 #[test]

@@ -38,6 +38,32 @@ fn whole_amounts(rt: HostRuntime) {
     answers(&rt, u8::from_fixed(b"3", &CENTS), Err(too_large));
 }
 
+// The fault of a whole text under a description.
+fn fault_of(text: &[u8], format: &FixedFormat) -> Option<FixedError> {
+    u8::from_fixed(text, format).err()
+}
+
+#[test]
+fn faults_of_whole_amounts(rt: HostRuntime) {
+    let text = |error| Some(FixedError::Text(error));
+    answers(&rt, u8::from_fixed(b"2", &CENTS), Ok(200));
+    answers(&rt, u8::from_fixed(b"2.5", &CENTS), Ok(250));
+    answers(&rt, fault_of(b"30.5", &CENTS), text(Error::Overflow(3)));
+    answers(&rt, fault_of(b"30.55", &CENTS), text(Error::Overflow(3)));
+    answers(&rt, fault_of(b"1.5a", &CENTS), text(Error::InvalidDigit(3)));
+    answers(&rt, fault_of(b"1.a", &CENTS), text(Error::InvalidDigit(2)));
+    answers(&rt, fault_of(b"x", &CENTS), text(Error::InvalidDigit(0)));
+    let behind_minus = FixedError::Text(Error::InvalidDigit(1));
+    answers(&rt, i64::from_fixed(b"-x", &CENTS), Err(behind_minus));
+    // the zeros that aren't written come last
+    answers(&rt, fault_of(b"3.", &CENTS), text(Error::Empty(2)));
+    let exact = FixedFormat {
+        takes_fewer: false,
+        ..CENTS
+    };
+    answers(&rt, fault_of(b"3", &exact), text(Error::Empty(1)));
+}
+
 #[test]
 fn amounts_in_front(rt: HostRuntime) {
     answers(
@@ -49,6 +75,29 @@ fn amounts_in_front(rt: HostRuntime) {
         &rt,
         i64::from_fixed_partial(b"12. And", &CENTS),
         Ok((1200, 2)),
+    );
+    answers(
+        &rt,
+        i64::from_fixed_partial(b"-1.234,50 EUR", &grouped()),
+        Ok((-123_450, 9)),
+    );
+}
+
+// What is read in front of a text with two places or fewer.
+fn front(text: &[u8]) -> Result<(u16, usize), FixedError> {
+    u16::from_fixed_partial(text, &CENTS)
+}
+
+// Digits behind another byte than the point are no places, however many they are, and a letter is
+// no digit.
+#[test]
+fn what_ends_an_amount_in_front(rt: HostRuntime) {
+    let unread = [front(b"12 34"), front(b"12,34"), front(b"12 3456")];
+    answers(&rt, unread, [Ok((1200, 2)); 3]);
+    answers(
+        &rt,
+        [front(b"1.5a"), front(b"1.a")],
+        [Ok((150, 3)), Ok((100, 1))],
     );
 }
 
@@ -77,11 +126,46 @@ fn refused_descriptions(rt: HostRuntime) {
     answers(&rt, point.error(), Some(FixedFormatError::Point));
     let refused = FixedError::Format(FixedFormatError::Point);
     answers(&rt, u64::from_fixed(b"1", &point), Err(refused));
+    answers(&rt, u64::from_fixed_partial(b"1", &point), Err(refused));
     let places = FixedFormat {
         places: 39,
         ..CENTS
     };
     answers(&rt, places.error(), Some(FixedFormatError::Places));
+}
+
+// The fault of a description with this point.
+fn fault_of_point(point: u8) -> Option<FixedFormatError> {
+    FixedFormat { point, ..CENTS }.error()
+}
+
+#[test]
+fn bytes_and_formats_of_descriptions(rt: HostRuntime) {
+    let unfit = [
+        fault_of_point(b'+'),
+        fault_of_point(b'-'),
+        fault_of_point(b'0'),
+        fault_of_point(b'9'),
+    ];
+    answers(&rt, unfit, [Some(FixedFormatError::Point); 4]);
+    let fit = [
+        fault_of_point(b'/'),
+        fault_of_point(b':'),
+        fault_of_point(b'a'),
+    ];
+    answers(&rt, fit, [None; 3]);
+    let octal = FixedFormat {
+        integer: NumberFormatBuilder::from_radix(8),
+        ..CENTS
+    };
+    answers(&rt, octal.error(), Some(FixedFormatError::Radix));
+    let prefixes = FixedFormat {
+        integer: NumberFormatBuilder::new()
+            .literal_prefixes(true)
+            .build_unchecked(),
+        ..CENTS
+    };
+    answers(&rt, prefixes.error(), Some(FixedFormatError::Affix));
 }
 
 #[test]
@@ -90,4 +174,5 @@ fn lines_and_columns(rt: HostRuntime) {
     answers(&rt, line_column(b"12\n34\n5x", 7), third);
     let first = LineColumn { line: 0, column: 2 };
     answers(&rt, line_column(b"12\n34\n5x", 2), first);
+    answers(&rt, line_column(b"\t\t1", 2), first);
 }

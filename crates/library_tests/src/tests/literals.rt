@@ -1,6 +1,7 @@
 // Tokens one by one, and callers. proofs/Tokens.antt has more sources.
 
 mod caller;
+mod ranges;
 mod typed;
 
 use crate::tests::answers;
@@ -23,6 +24,13 @@ fn tokens_one_by_one(rt: HostRuntime) {
     };
     answers(&rt, first(b" 12_3;"), Some(number));
     answers(&rt, first(b"\r\n"), None);
+    let control = Token {
+        kind: Kind::Byte,
+        start: 1,
+        stop: 2,
+        text: b"\0",
+    };
+    answers(&rt, first(b" \0"), Some(control));
     let radix = NumberFormatBuilder::new()
         .mantissa_radix(37)
         .digit_separator(Some(b'+'))

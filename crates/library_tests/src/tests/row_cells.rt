@@ -42,3 +42,25 @@ fn the_cell_of_a_fault_has_a_place(rt: HostRuntime) {
     answers(&rt, put_cells(b"007abxyz\n", &wide, 1, &mut cells), 3);
     answers(&rt, cells[0], CellPlace { start: 3, size: 2 });
 }
+
+#[test]
+fn single_bytes_have_their_cell(rt: HostRuntime) {
+    let commas = with_layout(Layout::Separated {
+        separator: b',',
+        columns: 0,
+    });
+    let mut cells = [UNTOUCHED; 2];
+    answers(&rt, put_cells(b"7", &commas, 0, &mut cells), 1);
+    answers(&rt, cells, [CellPlace { start: 0, size: 1 }, UNTOUCHED]);
+    let second = CellPlace { start: 2, size: 2 };
+    answers(&rt, put_cells(b"a,b\r", &commas, 1, &mut cells), 2);
+    answers(&rt, cells, [second, UNTOUCHED]);
+    answers(&rt, put_cells(b"c,d\t\n", &commas, 1, &mut cells), 2);
+    answers(&rt, cells, [second, UNTOUCHED]);
+    let plain = Dialect {
+        has_quotes: false,
+        ..commas
+    };
+    answers(&rt, put_cells(b"\"a\nb\"", &plain, 0, &mut cells), 1);
+    answers(&rt, cells, [CellPlace { start: 0, size: 2 }, UNTOUCHED]);
+}

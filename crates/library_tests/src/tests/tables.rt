@@ -1,5 +1,7 @@
 // Tables, as callers have them. proofs/ColumnRows.antt of the crate has more texts.
 
+mod bytes;
+
 ghost use Rattle.std.specs.Prelude.{◌≡◌, ◌-◌, ◌≤◌, ◌<◌, drop, length, option_map, take, IfSome};
 ghost use Rattle.lexical_tables.specs.Rows.{rows, rows_from};
 ghost use Rattle.lexical_tables.specs.Targets.{view_of_target};
