@@ -729,7 +729,8 @@ uint32_t jadvolni_fixed_error(const jadvolni_fixed *fixed) JADVOLNI_PURE_ JADVOL
  *     jadvolni_result r = jadvolni_parse_i64_fixed("-0.05", 5, &cents, &value);
  *
  *     JADVOLNI_OVERFLOW, JADVOLNI_UNDERFLOW  at the digit at which the number leaves the type; if only
- *                             zeros that aren't written make it leave the type, where reading stops.
+ *                             zeros that aren't written make it leave the type, where reading stops
+ *                             (if a digit is missing there too, the fault is JADVOLNI_EMPTY).
  *     JADVOLNI_INVALID_DIGIT  at the digit after the last place, or, if `places` is 0, at a point before a
  *                             digit; without `_front` also at any other byte that isn't allowed, such as
  *                             the byte after a point that no digit follows.

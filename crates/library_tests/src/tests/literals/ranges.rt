@@ -132,7 +132,7 @@ fn a_digit_behind_a_number_is_none_of_its_suffix(rt: HostRuntime) {
 // What is wrong with the format, or with the number but for its range, comes before a suffix that
 // no entry has.
 #[test]
-fn the_first_fault_is_told(rt: HostRuntime) {
+fn the_first_fault_is_reported(rt: HostRuntime) {
     let radix = NumberFormatBuilder::from_radix(37);
     answers(
         &rt,
