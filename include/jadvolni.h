@@ -47,8 +47,9 @@
  * WHAT A CALL RETURNS
  *
  *     r.status  JADVOLNI_OK, or what is wrong with the text or with the format. A fault of the format
- *               comes before those of the text, and of these the one at the earliest place is
- *               returned. Typed literals and tables have their own order, told at their declarations.
+ *               comes before those of the text. Of these the one at the earliest place is returned,
+ *               and if a required sign is missing there, that. Typed literals and tables have their own
+ *               order, described at their declarations.
  *     r.place   A byte offset in the text, from 0. At JADVOLNI_OK it is the number of bytes read. At
  *               a fault of the text it is the place of the wrong byte, or `len` if something is
  *               missing at the end. At a fault of the format it is 0.
@@ -178,9 +179,9 @@ typedef enum jadvolni_status {
     JADVOLNI_INVALID_TABLE = 17,
 
     /* A quote in a cell neither encloses it nor is doubled within quotes that do, or it is never closed,
-     * or it stands within a number. The place is that of the quote. In a cell that begins with a quote it is
-     * for a number the next one, and otherwise the one before the first byte outside quotes. If there is
-     * none, it is the first, which is never closed. In the cell "1"" it is 2 for a number, 0 for a text. */
+     * or it stands within a number. The place is that of the quote. In a cell that begins with a quote it is,
+     * for a number, the second quote, and otherwise the one before the first byte outside quotes. If there
+     * is none, it is the first, which is never closed. In "1"" it is 2 for a number, 0 for a text. */
     JADVOLNI_MISPLACED_QUOTE = 18,
 
     /* The radix of the integer part of fixed-point numbers isn't 10. For this and the next three the

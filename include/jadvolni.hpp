@@ -10,7 +10,7 @@
 //     static constexpr jadvolni::suffix_entry suffixes[] = {jadvolni::suffix_of<std::uint8_t>("u8")};
 //     auto typed = jadvolni::parse_typed_literal("300u8", jadvolni::formats::rust, suffixes); // overflow
 //
-//     auto port = jadvolni::parse_within<std::uint16_t>(text, 1, 65535); // or what it isn't
+//     auto port = jadvolni::parse_within<std::uint16_t>(text, 1, 65535); // or why not
 //
 //     auto [ptr, ec] = jadvolni::from_chars(first, last, value); // as std::from_chars
 //

@@ -6,7 +6,7 @@ LIBDIR ?= $(PREFIX)/lib
 MANDIR ?= $(PREFIX)/share/man
 DOCDIR := $(PREFIX)/share/doc/jadvolni
 LICENCES := $(wildcard LICENSE-APACHE LICENSE-MIT NOTICE)
-# The version stands in the header alone. A program runs with every later library of its major version.
+# Here the version is taken from the header. A program runs with every later library of its major version.
 VERSION := $(shell sed -n 's/.*JADVOLNI_VERSION_STRING "\(.*\)"/\1/p' include/jadvolni.h)
 SOVERSION := $(firstword $(subst ., ,$(VERSION)))
 HEADERS := jadvolni.h jadvolni.hpp $(addprefix jadvolni_,blocks.hpp columns.hpp faults.hpp tables.hpp within.hpp)

@@ -4,7 +4,7 @@ pip calls `build_wheel`, `build_editable` and `build_sdist` as `pyproject.toml` 
 is a C compiler, Python's headers, and the library, which `make lib` at the repository's top makes:
 
     JADVOLNI_INCLUDE   the folder of jadvolni.h, if not ../../include
-    JADVOLNI_LIBRARY   the static library, if not ../../crates/jadvolni/out/libjadvolni.a
+    JADVOLNI_LIBRARY   the static library, if not ../../build/libjadvolni.a
     AUDITWHEEL_PLAT    the platform of the wheel's tag, if not that of this Python
     CC                 the compiler, if not cc
     CPPFLAGS, CFLAGS, LDFLAGS
@@ -75,7 +75,7 @@ def compile_extension(folder: Path) -> Path:
 def command(target: Path) -> list[str]:
     """The call of the compiler that makes the extension."""
     include = found("JADVOLNI_INCLUDE", TOP / "include")
-    library = found("JADVOLNI_LIBRARY", TOP / "crates" / "jadvolni" / "out" / "libjadvolni.a")
+    library = found("JADVOLNI_LIBRARY", TOP / "build" / "libjadvolni.a")
     python = Path(sysconfig.get_paths()["include"])
     if not (python / "Python.h").exists():
         sys.exit(f"there is no {python / 'Python.h'}: install this Python's headers")

@@ -183,7 +183,7 @@ class Build(unittest.TestCase):
             shutil.copytree(BINDING, sources)
             site.mkdir()
             top = BINDING.parents[1]
-            where = {"JADVOLNI_LIBRARY": str(top / "crates/jadvolni/out/libjadvolni.a"),
+            where = {"JADVOLNI_LIBRARY": str(top / "build/libjadvolni.a"),
                      **os.environ, "JADVOLNI_INCLUDE": str(top / "include")}
             where.pop("PYTHONPATH", None)
             build = f"import build_wheel; print(build_wheel.build_editable({str(site)!r}))"

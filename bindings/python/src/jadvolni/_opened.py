@@ -1,4 +1,8 @@
-"""How an opened file is read: its rows block by block, by one thread or by a pool of them."""
+"""How an opened file is read: its rows block by block, by one thread or by a pool of them.
+
+A path that several threads read: `ReadAhead` reads blocks in the pool, `whole_rows` cuts them where
+rows end, `rows_in_threads` has them parsed, in order, and `Rows.append` has their numbers copied.
+"""
 
 from __future__ import annotations
 

@@ -145,7 +145,8 @@ def rows_in_threads(
 ) -> Iterator[tuple[list[Rows], int]]:
     """The rows of each block of a file, in the file's order, and the block's size in bytes.
 
-    While some threads parse rows, this one reads the next block.
+    While some threads parse rows, this one asks for the next block. (Those of a path are read
+    ahead, by the pool: `ReadAhead`.)
     """
     row, left, failed = 0, iter(blocks), None
     waiting: deque[tuple[Texts, Future[tuple[list[Rows], list[Fault]]]]] = deque()
