@@ -140,6 +140,15 @@ class Threads(unittest.TestCase):
             self.assertEqual(told(b"1,x,2,3", COLUMNS, threads=10**30)["d"], [3])
             self.assertEqual(told(b"x\n" * 9, {"a": None}, threads=threads), {})
 
+    def test_lines_of_a_view_of_characters(self):
+        """It equals no bytes, and its lines are counted as those of bytes."""
+        text = b"1,a,2,3\n" * 50 + b"1,a,x,3\n" + b"1,a,2,3\n" * 50
+        for given in (text, memoryview(text).cast("c"), memoryview(text).cast("b")):
+            for threads in (1, 2, 16):
+                fault = told(given, COLUMNS, has_quotes=True, threads=threads)
+                self.assertEqual(fault[4], 50)
+                self.assertEqual(fault[-1][:7], "line 51")
+
     def test_files(self):
         with tempfile.TemporaryDirectory() as folder:
             path = pathlib.Path(folder, "table")
