@@ -195,6 +195,18 @@ class Threads(unittest.TestCase):
             self.assertEqual(sum(len(it["a"]) for it in tables), 2000)
         self.assertEqual(found, [1024, 1024])
 
+    def test_few_rows_of_many_columns(self):
+        """Their numbers are copied without a call of the pool for each column."""
+        columns = {f"c{k}": Column("u8", may_miss=k % 3 == 0) for k in range(500)}
+        text = (",".join(map(str, range(100, 200))) * 5 + "\n").replace("199100", "199,100") * 60
+        with tempfile.TemporaryDirectory() as folder:
+            path = pathlib.Path(folder, "table")
+            path.write_text(text)
+            with mock.patch.object(Pool, "submit", autospec=True, side_effect=Pool.submit) as made:
+                found = read_table(path, columns, threads=3, size=10_000)
+        self.assertEqual(lists(found), told(text, columns))
+        self.assertLess(made.call_count, 60)
+
     def test_a_pipe_by_its_path(self):
         """One thread reads it, since nobody knows how many blocks it has."""
         reads, writes = os.pipe()
