@@ -237,6 +237,10 @@ class Names(unittest.TestCase):
                                     " the one that closes it, or size may have to be larger$"):
             next(iter_table(io.BytesIO(b'a,"b\n1,2\n3,4\n'), {"a": "u8"}, header=True, size=9,
                             has_quotes=True))
+        with self.assertRaisesRegex(ValueError, "^the header has more than 2 bytes; size may have"
+                                    " to be larger$"):  # (the quote is one of the next row)
+            next(iter_table(io.BytesIO(b'ab\n"3"\n'), {"ab": "u8"}, header=True, size=2,
+                            has_quotes=True))
         self.assertEqual(test_tables.lists(parse_table(
             b"a\x80b\n1\x802\n", {"b": "u8"}, "\udc80", header=True)), {"b": [2]})
         wide = {"separator": "|", "header": True}

@@ -113,6 +113,16 @@ class Pools(unittest.TestCase):
                 self.assertRaises(ZeroDivisionError, pool.submit(divmod, 1, 0).result)
         self.assertEqual((pool.most, pool.threads), (0, []))
 
+    def test_calls_are_made_where_no_thread_can_wait(self):
+        """As without memory for a lock: then threads end, and no more are started."""
+        for error in MemoryError, RuntimeError("can't allocate lock"):
+            with Pool(2) as pool, mock.patch.object(pool.changed, "wait", side_effect=error):
+                for number in range(50):
+                    self.assertEqual(pool.submit(pow, number, 2).result(60), number ** 2)
+                    for thread in pool.threads:
+                        thread.join(60)
+                self.assertEqual((len(pool.threads), pool.most, pool.running), (1, 0, 0))
+
     def test_garbage_that_one_of_the_threads_collects(self):
         """A table that nobody holds, and that isn't read to its end, is left by any thread."""
         with Pool(2) as pool:

@@ -140,6 +140,15 @@ class Threads(unittest.TestCase):
             self.assertEqual(told(b"1,x,2,3", COLUMNS, threads=10**30)["d"], [3])
             self.assertEqual(told(b"x\n" * 9, {"a": None}, threads=threads), {})
 
+    def test_lines_of_a_view_of_characters(self):
+        """It equals no bytes, and its lines are counted as those of bytes."""
+        text = b"1,a,2,3\n" * 50 + b"1,a,x,3\n" + b"1,a,2,3\n" * 50
+        for given in (text, memoryview(text).cast("c"), memoryview(text).cast("b")):
+            for threads in (1, 2, 16):
+                fault = told(given, COLUMNS, has_quotes=True, threads=threads)
+                self.assertEqual(fault[4], 50)
+                self.assertEqual(fault[-1][:7], "line 51")
+
     def test_files(self):
         with tempfile.TemporaryDirectory() as folder:
             path = pathlib.Path(folder, "table")
@@ -185,6 +194,18 @@ class Threads(unittest.TestCase):
             tables = iter_table(io.BytesIO(text), {"a": "u8"}, threads=10**30, size=90)
             self.assertEqual(sum(len(it["a"]) for it in tables), 2000)
         self.assertEqual(found, [1024, 1024])
+
+    def test_few_rows_of_many_columns(self):
+        """Their numbers are copied without a call of the pool for each column."""
+        columns = {f"c{k}": Column("u8", may_miss=k % 3 == 0) for k in range(500)}
+        text = (",".join(map(str, range(100, 200))) * 5 + "\n").replace("199100", "199,100") * 60
+        with tempfile.TemporaryDirectory() as folder:
+            path = pathlib.Path(folder, "table")
+            path.write_text(text)
+            with mock.patch.object(Pool, "submit", autospec=True, side_effect=Pool.submit) as made:
+                found = read_table(path, columns, threads=3, size=10_000)
+        self.assertEqual(lists(found), told(text, columns))
+        self.assertLess(made.call_count, 60)
 
     def test_a_pipe_by_its_path(self):
         """One thread reads it, since nobody knows how many blocks it has."""

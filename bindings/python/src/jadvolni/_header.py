@@ -138,7 +138,8 @@ def _first_line(
         start = len(line)
         line += block[:end] if end else block
         if len(line) > size:
-            raise too_long("the header", size, _quote_in(line, before) if is_within else None)
+            is_open = is_within and not end  # (behind its end, the next row may have a quote)
+            raise too_long("the header", size, _quote_in(line, before) if is_open else None)
         if end or not block:
             break
     if not line:

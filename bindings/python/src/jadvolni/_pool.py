@@ -58,7 +58,10 @@ class Pool:
     def _next_call(self) -> Optional[_Call]:
         """The next call for a thread, or None: then the thread ends."""
         with self.lock:
-            self.changed.wait_for(lambda: self.calls or self.is_left, _IDLE)
+            try:
+                self.changed.wait_for(lambda: self.calls or self.is_left, _IDLE)
+            except (MemoryError, RuntimeError):  # (for lack of memory, where no more are started)
+                self.most = 0
             if self.calls:
                 return self.calls.popleft()
             self.running -= 1

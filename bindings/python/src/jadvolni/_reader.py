@@ -209,4 +209,5 @@ class Reader:
         """How many line feeds a text has, or 0 if each row is a line: then rows are counted."""
         if self.is_by_lines or not text:
             return 0
-        return _row_count(text, 0) - (text[-1:] != b"\n")
+        # (a view of characters equals no bytes)
+        return _row_count(text, 0) - (bytes(text[-1:]) != b"\n")

@@ -26,6 +26,8 @@ _FEW = 64
 # written takes no memory, except in the module array, which clears it.
 _FOLD = 1 << 14
 _FOLD_OF_ARRAY = 32
+# So many numbers are copied by another thread: a call of the pool takes longer than fewer.
+_MANY = 1 << 12
 
 
 class Rows:
@@ -143,14 +145,17 @@ class Rows:
         return with_pair(values, more, bits)
 
     def append(self, other: Rows, behind: int, pool: Pool) -> None:
-        """Appends the rows of another, whose numbers the pool copies. About `behind` more bytes
-        follow them."""
+        """Appends the rows of another, whose numbers the pool copies if they are many. About
+        `behind` more bytes follow them."""
         if self.room - self.count < other.count or not self.room:
             self.finish()
             self.grow(max(other.count, self._guess(behind), self.count // 2))
         for name, values in other.arrays.items():
             (numbers, bits), (to, to_bits) = pair_of(values), pair_of(self.arrays[name])
-            self.copies.append(pool.submit(copy_front, numbers, other.count, to, self.count))
+            if other.count < _MANY:
+                copy_front(numbers, other.count, to, self.count)
+            else:
+                self.copies.append(pool.submit(copy_front, numbers, other.count, to, self.count))
             if bits is not None:
                 _move_bits(to_bits, self.count, bits, other.count)
             if isinstance(values, Room):
