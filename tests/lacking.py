@@ -99,6 +99,12 @@ CASES = [
     Case("packaging/dist.sh --help", "usage: packaging/dist.sh [check]"),
     Case("packaging/test_dist.sh --help", "usage: packaging/test_dist.sh"),
     Case("packaging/assembly.sh", "usage: packaging/assembly.sh jadvolni.S VERDICT"),
+    Case("packaging/align.sh", "usage: packaging/align.sh FROM TO"),
+    Case("packaging/align.sh nowhere out.a", "nowhere is no archive"),
+    Case("packaging/align.sh README.md out.a", "README.md is no archive"),
+    Case("packaging/align.sh docs out.a", "docs is no archive"),
+    Case("echo '!<arch>' > a.a; packaging/align.sh a.a docs; code=$?; rm a.a; exit $code",
+         "docs is no file"),
     Case("packaging/sbom.sh", "usage: packaging/sbom.sh VERSION COMMIT TOOLCHAIN VERDICT"),
     Case("packaging/as_user.sh", "usage: as_user.sh FOLDER [packages]"),
     Case("sed -i '$d' docs/CONTRACTS.md; cp docs/CONTRACTS.md kept; (ulimit -f 1;"
