@@ -96,6 +96,24 @@ def functions_by_lines(place: Place) -> str:
     return f"{len(found)} functions"
 
 
+def aligned(place: Place) -> str:
+    """align.sh only copies where objcopy fails or writes nothing, whatever the names are."""
+    folder, script = place.path("aligned"), source("packaging", "align.sh")
+    os.makedirs(folder)
+    shutil.copy(place.library("libjadvolni.a"), os.path.join(folder, "-from.a"))
+    for ending in ("exit 0", "exit 1", 'for to; do :; done; echo > "$to"'):
+        with open(os.path.join(folder, "objcopy"), "w", encoding="ascii") as file:
+            file.write(f"#!/bin/sh\n{ending}\n")
+        os.chmod(file.name, 0o755)
+        where = {**os.environ, "PATH": f"{folder}:{os.environ['PATH']}"}
+        run([script, "-from.a", "-to.a"], env=where, cwd=folder)
+        run(["cmp", "--", "-from.a", "-to.a"], cwd=folder)
+    run([script, "-from.a", "-from.a"], cwd=folder)
+    if sorted(os.listdir(folder)) != ["-from.a", "-to.a", "objcopy"]:
+        raise Failed(f"left: {os.listdir(folder)}")
+    return "4 copies"
+
+
 def size_in_readme(library: str) -> str:
     """The size of the shared library: README's is within 5 in 100 of it."""
     size = os.path.getsize(library) / 1000
@@ -455,6 +473,7 @@ def steps(place: Place) -> Iterator[Step]:
     yield "layout of header and crates", layout
     yield "what the static library is", partial(static_library, place)
     yield "where functions of the static library begin", partial(functions_by_lines, place)
+    yield "copies of the static library", partial(aligned, place)
     yield "what the shared library is", partial(shared_library, place)
     yield "flags of a distribution", partial(flags_of_a_distribution, place)
     yield "test vectors, by the shared library", partial(worked_rows, place)

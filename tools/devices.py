@@ -24,7 +24,7 @@ import termios
 import time
 from typing import IO, Callable, Dict, List, NamedTuple, Optional, Union
 
-from row_data import BUILT, TOP, made
+from row_data import BUILT, TOP, runnable
 
 CRATE = os.path.join(TOP, "crates", "lexint")
 
@@ -310,7 +310,7 @@ def main(programs: List[str]) -> int:
     if not shutil.which("cc"):
         print("tools/devices.py: there is no cc, so no allocation is refused by its number")
         checks = CHECKS
-    done = [Runs(os.path.abspath(made(program, "lexint"))) for program in programs]
+    done = [Runs(runnable(program, "lexint")) for program in programs]
     for runs in done:
         for check in checks:
             check(runs)

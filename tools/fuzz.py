@@ -28,7 +28,7 @@ from typing import Callable, Iterable, Iterator, List, NamedTuple, Optional, Typ
 from fuzz_edges import edge_runs
 from fuzz_lines import Lines
 from fuzz_short import short_runs
-from row_data import BUILT, TOP, made, positive
+from row_data import BUILT, TOP, positive, runnable
 from reference import STANDARD, TYPES
 from reference_lines import Session
 
@@ -311,7 +311,7 @@ def main() -> int:
     kinds.add_argument("--edges", action="store_true", help="the edges of lengths and types")
     parser.add_argument("--longest", type=positive, default=5, help="how long short texts are")
     given = parser.parse_args()
-    made(shutil.which(given.program) or given.program, "lexint")
+    program = runnable(shutil.which(given.program) or given.program, "lexint")
     if given.all:
         print(f"fuzz: all texts of up to {given.longest} bytes", flush=True)
         runs = short_runs(given.longest, max(LINES_OF_RUNS))
@@ -322,7 +322,7 @@ def main() -> int:
         print(f"fuzz: seed {given.seed}", flush=True)
         runs = random_runs(given.seed, given.lines)
     with tempfile.TemporaryDirectory() as folder:
-        return compare_all(runs, Comparison(given.program, compiled_driver(folder)))
+        return compare_all(runs, Comparison(program, compiled_driver(folder)))
 
 
 if __name__ == "__main__":

@@ -52,6 +52,15 @@ def made(path: str, target: str) -> str:
     return path
 
 
+def runnable(path: str, target: str) -> str:
+    """The whole path of a program that a target of make leaves: a name alone would be looked for on
+    the PATH. A file that can't be started is refused by a sentence."""
+    found = os.path.abspath(made(path, target))
+    if not os.access(found, os.X_OK):
+        sys.exit(f"this is no program: {path}: make {target} makes one")
+    return found
+
+
 def loaded(path: str) -> ctypes.CDLL:
     """The shared library that `make lib` leaves. Another file is refused by a sentence."""
     try:

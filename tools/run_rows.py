@@ -17,8 +17,8 @@ import subprocess
 import sys
 from typing import Dict, Iterator, List, NamedTuple, Tuple
 
-from row_data import (BUILT, BYTES, DATA, LANGUAGES, TOP, Fields, Group, Row, groups_of, made,
-                      read_text)
+from row_data import (BUILT, BYTES, DATA, LANGUAGES, TOP, Fields, Group, Row, groups_of,
+                      read_text, runnable)
 
 SECONDS = 60
 WHOLE_INPUTS = os.path.join(TOP, "tools", "lines.txt")
@@ -121,7 +121,8 @@ def wrong_answers(program: str, rows: List[Row], presets: Dict[str, Fields]) -> 
 
 def main(programs: List[str]) -> int:
     """Asks each program, and answers the exit status."""
-    programs = [made(program, "test" if program == BUILT[1] else "lexint") for program in programs]
+    programs = [runnable(program, "test" if program == BUILT[1] else "lexint")
+                for program in programs]
     groups = groups_of(DATA, LANGUAGES)
     rows = [row for group in groups for row in group.rows]
     presets = presets_by_name(groups)
