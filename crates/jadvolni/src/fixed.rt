@@ -125,7 +125,7 @@ impl FixedFields {
 
     // Whether the description is valid and its integer part has the standard format: a few of its words show this.
     #[inline(always)]
-    pub(crate) fn is_plain(&self) -> bool
+    pub(crate) fn is_valid_standard(&self) -> bool
         ensures { IsTrue result → IsPlainFixed self.now }
     {
         self.has_standard_integer() && self.keeps_reserved() && self.standard().is_plain()
@@ -133,7 +133,7 @@ impl FixedFields {
 
     // Whether the description is valid. Its integer part has to be decimal and without punctuation.
     #[inline(always)]
-    pub(crate) fn is_decimal(&self) -> bool
+    pub(crate) fn is_valid_decimal(&self) -> bool
         requires known { IsTrue (are_known self.now.integer) }
         requires kind { kind_of (integer_of self.now.integer) ≡ Decimal }
         ensures known { IsTrue result → fixed_known self.now ≡ true }

@@ -114,7 +114,7 @@ fn fixed_decimal<T: Integer, S: Slot<T>>(
     ensures { effect result (S.number value.new)
         ≡ fixed_call fields.now T.TYPE text.now (S.number value.old) }
 {
-    if !fields.is_decimal() {
+    if !fields.is_valid_decimal() {
         return fixed_any::<T, S>(text, fields, value);
     }
     match value_if_short::<T, { callers::TEXT }>(text, &fields.decimal()) {
@@ -177,7 +177,7 @@ pub fn fixed<T: Integer, S: Slot<T>>(text: &[u8], fields: &FixedFields, value: &
     ensures { effect result (S.number value.new)
         ≡ fixed_call fields.now T.TYPE text.now (S.number value.old) }
 {
-    if fields.is_plain() {
+    if fields.is_valid_standard() {
         return match value_if_short::<T, { callers::KNOWN }>(text, &fields.standard()) {
             Some(number) => store(Ok(number), text.len(), value),
             None => fixed_plain::<T, S>(text, fields, value),
@@ -221,7 +221,7 @@ fn fixed_front_decimal<T: Integer, S: Slot<T>>(
     ensures { effect result (S.number value.new)
         ≡ fixed_front_call fields.now T.TYPE text.now (S.number value.old) }
 {
-    if !fields.is_decimal() {
+    if !fields.is_valid_decimal() {
         return fixed_front_any::<T, S>(text, fields, value);
     }
     match front_at_once::<T>(text, &fields.decimal()) {
@@ -254,7 +254,7 @@ pub fn fixed_front<T: Integer, S: Slot<T>>(
     ensures { effect result (S.number value.new)
         ≡ fixed_front_call fields.now T.TYPE text.now (S.number value.old) }
 {
-    if fields.is_plain() {
+    if fields.is_valid_standard() {
         return match front_at_once::<T>(text, &fields.standard()) {
             Some(found) => give_front(Ok(found), value),
             None => fixed_front_plain::<T, S>(text, fields, value),

@@ -16,7 +16,7 @@ use lexical_parse_integer::quick::front_if_plain;
 use lexical_parse_integer::{NumberFormat, format};
 
 // Whether the format reads decimal digits alone as the standard one does, but for zeros in front.
-pub(crate) fn is_decimal(format: &NumberFormat) -> bool
+pub(crate) fn reads_decimals(format: &NumberFormat) -> bool
     ensures { IsTrue result → ReadsDecimals format.now }
 {
     format.radix() == 10

@@ -32,7 +32,7 @@ ghost use Rattle.lexical_literals.specs.Decimal.{ReadsDecimals};
 ghost use Rattle.lexical_literals.specs.Tokens.{FollowInTurn, FollowUnder, IsPartOf, TokenView, front_of, literals, number_of, view_of_token, tokens, tokens_from, tokens_if_valid};
 
 use bytes::{is_word_byte, skipped_length, word_length};
-use decimal::{front_of_decimal, is_decimal, seems_prefixed, zero_leads};
+use decimal::{front_of_decimal, reads_decimals, seems_prefixed, zero_leads};
 use groups::front_behind_zero;
 use lexical_parse_integer::algorithm::algorithm_partial;
 use lexical_parse_integer::laws::grammar::{front_end, wider_types};
@@ -264,7 +264,7 @@ impl<'a> Tokens<'a> {
         }
         Ok(Tokens {
             format: *format,
-            decimal: is_decimal(format),
+            decimal: reads_decimals(format),
             rest: source,
             place: 0,
         })

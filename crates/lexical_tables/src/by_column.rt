@@ -86,7 +86,8 @@ fn read_left_text<C: TableColumn>(
     quote_fault(dialect.has_quotes, false, cell)
 }
 
-// Reads a cell in its column, if its quotes are in place: it holds the mark, a number or a text, which goes to the row's place.
+// Reads a cell in its column, if its quotes are in place: it holds the missing text, a number or a text, which goes to
+// the row's place.
 #[inline(always)]
 fn read_value<C: TableColumn>(
     target: &mut C,

@@ -34,8 +34,8 @@ pub const AT_ONCE: u8 = 3;
 /// `read_at_once`.
 pub const PARSED: u8 = 5;
 
-// The column's cells are numbers that `TableColumn::read_parsed` parses: neither blanks nor a mark stand in them. The
-// table's reader sets this code for a column whose own code is `PARSED`.
+// The column's cells are numbers that `TableColumn::read_parsed` parses: neither blanks nor a missing text stand in
+// them. The table's reader sets this code for a column whose own code is `PARSED`.
 pub(crate) const BARE: u8 = 6;
 
 // The column's cells are amounts, which `TableColumn::read_amount` reads. The table's reader sets this code for a
@@ -142,19 +142,19 @@ fn ends_in_digit(text: &[u8]) -> bool
     char_is_digit(text[text.len() - 1], 10)
 }
 
-// The code in a table of a column whose own code is `AT_ONCE`. It stays that if blanks are allowed, or if the mark may
-// be a number too; otherwise a column with amounts gets `AMOUNTS`.
+// The code in a table of a column whose own code is `AT_ONCE`. It stays that if blanks are allowed, or if the missing
+// text may be a number too; otherwise a column with amounts gets `AMOUNTS`.
 #[inline(always)]
 #[tactic(auto, using(crate::proofs::CodeSteps::low_code, crate::proofs::CodeSteps::amounts_code))]
-fn code_of_amounts<C: TableColumn>(target: &C, dialect: &Dialect<'_>, is_mark_number: bool) -> u8
-    requires mark { is_mark_number ≡ ends_in_digit dialect.now.missing.now }
+fn code_of_amounts<C: TableColumn>(target: &C, dialect: &Dialect<'_>, is_missing_number: bool) -> u8
+    requires mark { is_missing_number ≡ ends_in_digit dialect.now.missing.now }
     requires code { IsCode 3 (C.target target.now) }
     ensures { IsCodeIn dialect.now result (C.target target.now) }
 {
     if dialect.allows_blanks {
         return AT_ONCE;
     }
-    if is_mark_number {
+    if is_missing_number {
         if target.may_miss() {
             return AT_ONCE;
         }
@@ -165,7 +165,8 @@ fn code_of_amounts<C: TableColumn>(target: &C, dialect: &Dialect<'_>, is_mark_nu
     AT_ONCE
 }
 
-// The code in a table of a column whose own code is `PARSED`: `BARE` where neither blanks nor a mark stand in cells.
+// The code in a table of a column whose own code is `PARSED`: `BARE` where neither blanks nor a missing text stand in
+// cells.
 #[inline(always)]
 #[tactic(auto, using(crate::proofs::CodeSteps::parsed_code, crate::proofs::CodeSteps::bare_code))]
 fn code_of_parsed<C: TableColumn>(target: &C, dialect: &Dialect<'_>) -> u8
@@ -178,11 +179,11 @@ fn code_of_parsed<C: TableColumn>(target: &C, dialect: &Dialect<'_>) -> u8
     BARE
 }
 
-// A column's code in a table: where the mark may be a number too, the column is asked for each number.
+// A column's code in a table: where the missing text may be a number too, the column is asked for each number.
 #[inline(always)]
 #[tactic(auto, using(crate::proofs::CodeSteps::asked_code, crate::proofs::CodeSteps::low_code, crate::proofs::CodeSteps::none_code, crate::proofs::CodeSteps::type_code))]
-fn code_in<C: TableColumn>(target: &C, dialect: &Dialect<'_>, is_mark_number: bool) -> u8
-    requires mark { is_mark_number ≡ ends_in_digit dialect.now.missing.now }
+fn code_in<C: TableColumn>(target: &C, dialect: &Dialect<'_>, is_missing_number: bool) -> u8
+    requires mark { is_missing_number ≡ ends_in_digit dialect.now.missing.now }
     ensures { IsCodeIn dialect.now result (C.target target.now) }
 {
     let code = target.code();
@@ -193,12 +194,12 @@ fn code_in<C: TableColumn>(target: &C, dialect: &Dialect<'_>, is_mark_number: bo
         return code_of_parsed(target, dialect);
     }
     if code == AT_ONCE {
-        return code_of_amounts(target, dialect, is_mark_number);
+        return code_of_amounts(target, dialect, is_missing_number);
     }
     if code < U8 {
         return UNKNOWN;
     }
-    if is_mark_number {
+    if is_missing_number {
         if has_bits(code) {
             return AT_ONCE;
         }
@@ -216,11 +217,11 @@ pub(crate) fn put_codes<C: TableColumn>(
     ensures codes { AreCodes dialect.now codes.new (map C.target targets.now) }
     ensures standard { result ≡ Standard → AreStandard (length targets.now) codes.new }
 {
-    let is_mark_number = ends_in_digit(dialect.missing);
+    let is_missing_number = ends_in_digit(dialect.missing);
     let count = targets.len().min(CODED);
     let mut columns = Loop::Standard;
     for column in 0..count {
-        let code = code_in(&targets[column], dialect, is_mark_number);
+        let code = code_in(&targets[column], dialect, is_missing_number);
         codes[column] = code;
         columns = with_code(columns, code);
     }

@@ -15,8 +15,8 @@ use crate::misplaced::{doubled_quotes, quote_fault};
 use crate::targets::TableColumn;
 use lexical_parse_integer::Options;
 
-// Reads a cell in its column of texts, if its quotes are in place, and returns whether they are: it holds the mark, or a text,
-// and where that stands goes to the row's place.
+// Reads a cell in its column of texts, if its quotes are in place, and returns whether they are: it holds the missing
+// text, or a text, and where that stands goes to the row's place.
 #[inline(always)]
 #[tactic(auto, using(crate::proofs::CodeSteps::text_code))]
 pub(crate) fn read_text<C: TableColumn>(
@@ -98,8 +98,8 @@ pub(crate) fn had_at_once<C: TableColumn>(target: &mut C, row: usize, held: Cell
     target.read_at_once(row, held.ahead, held.text.len())
 }
 
-// Reads a cell in its column of numbers that are parsed, where its quotes are in place and it holds the mark or a number, and
-// returns whether it did.
+// Reads a cell in its column of numbers that are parsed, where its quotes are in place and it holds the missing text or
+// a number, and returns whether it did.
 #[inline(always)]
 fn read_parsed<C: TableColumn>(
     target: &mut C,

@@ -49,9 +49,9 @@ fn put_digits<C: TableColumn>(target: &mut C, code: u8, row: usize, held: Cell<'
     put_found(target, code, row, held.ahead, size, found)
 }
 
-// Reads what a cell holds, the first `size` bytes of a text, where digits read as words aren't all of it: the mark,
-// another number, or no number. Returns whether it is right, and reports what is wrong. Out of line, to keep registers
-// for the loops.
+// Reads what a cell holds, the first `size` bytes of a text, where digits read as words aren't all of it: the missing
+// text, another number, or no number. Returns whether it is right, and reports what is wrong. Out of line, to keep
+// registers for the loops.
 #[inline(never)]
 pub(crate) fn read_held_number<C: TableColumn>(
     target: &mut C,

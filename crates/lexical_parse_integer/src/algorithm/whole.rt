@@ -128,13 +128,13 @@ fn standard_answer<T: Integer>(bytes: &[u8]) -> Result<T>
     complete_decimal::<T>(bytes, &format::STANDARD)
 }
 
-// The calls below know the format, and return in registers.
 /// The integer that the whole text stands for under the standard format, for a text that `value_for_format` doesn't
 /// read.
 #[inline(always)]
 pub fn complete_standard<T: Integer>(bytes: &[u8]) -> Result<T>
     ensures { view_of T.number result ≡ complete standard T.TYPE bytes.now }
 {
+    // These calls know the format, and return in registers.
     if let Some(value) = standard_behind_plus::<T>(bytes) {
         return Ok(value);
     }

@@ -10,7 +10,7 @@ use Rattle.lexical_fixed.specs.Computed.{fixed_grammar}
 use Rattle.lexical_fixed.specs.Fixed.{Fixed}
 use Rattle.lexical_tables.specs.ByColumn.{columns_put}
 use Rattle.lexical_tables.specs.Cells.{Kind, answer_as}
-use Rattle.lexical_tables.specs.Readings.{FixedPoints, Number, Reading, Text, Texts, Value}
+use Rattle.lexical_tables.specs.Readings.{FixedPoints, Number, Reading, Text, Texts, Value, answer_by}
 use Rattle.lexical_tables.specs.Targets.{TargetView}
 use Rattle.lexical_tables.specs.declared.answers.CellFault.TheVariants.{MisplacedQuote, NotNumber}
 use Rattle.lexical_tables.specs.declared.dialect.Dialect.{Dialect}
@@ -85,7 +85,7 @@ spaced = refl
 quoted : answer_as open_table (column_of Texts false) (cell (codes "\"a b\"")) ≡ Ok (Some (text_at 6 3 false))
 quoted = refl
 
--- doubled quotes within are told
+-- a text says that quotes within it are doubled
 doubled : answer_as open_table (column_of Texts false) (cell (codes "\"a\"\"b\"")) ≡ Ok (Some (text_at 6 4 true))
 doubled = refl
 
@@ -96,6 +96,10 @@ misplaced = refl
 -- without a meaning they are bytes of their text
 meaningless : answer_as (plain 2 false) (column_of Texts false) (cell (codes "\"a\"\"")) ≡ Ok (Some (text_at 5 4 false))
 meaningless = refl
+
+-- and so they are in a text that is read without its table
+read_alone : answer_by Texts (record { start = 5; text = codes "a\"\"b" }) ≡ Ok (text_at 5 4 false)
+read_alone = refl
 
 -- an empty text is one, unless that stands for a missing one
 empty_text : answer_as open_table (column_of Texts false) (cell []) ≡ Ok (Some (text_at 5 0 false))

@@ -12,7 +12,8 @@ pub enum FormatKind {
     Decimal,
     /// A valid format of another radix, without punctuation.
     Plain,
-    /// Every other valid format: it has a separator, a prefix or a suffix, or requires a sign.
+    /// Every other valid format: it has a separator, a prefix or a suffix, literal prefixes or octal zeros, or requires a
+    /// sign.
     Other,
     /// A format that breaks a rule.
     Invalid,
