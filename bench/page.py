@@ -93,15 +93,14 @@ def asked(about: str, unit: str, size: int, rounds: int, compares: bool = False,
     parser = options(about, rounds)
     parser.add_argument(f"--{unit}", type=positive, default=size, help=f"{unit} of a text")
     if compares:
-        parser.add_argument("--against", type=checkout, default="",
-                            help="another built checkout")
+        parser.add_argument("--against", type=checkout, help="another built checkout")
     if has_files:
         parser.add_argument("--megabytes", type=positive, default=0, help="read a file, by blocks")
     found = parser.parse_args()
     if compares and has_files and found.against and found.megabytes:
         parser.error("--against and --megabytes go each alone")
     return Asked(unit, getattr(found, unit), found.rounds, found.seed, os.getloadavg()[0],
-                 found.against if compares else "", found.megabytes if has_files else 0)
+                 (compares and found.against) or "", found.megabytes if has_files else 0)
 
 
 def table(head: list[str], rows: list[list[str]]) -> list[str]:

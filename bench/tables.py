@@ -24,6 +24,7 @@ import io
 import itertools
 import os
 import random
+import shutil
 import sys
 import tempfile
 from types import ModuleType
@@ -200,6 +201,15 @@ def sum_of(numbers: Iterable[int]) -> int:
     return int(add()) if add else sum(numbers)
 
 
+def need_room(megabytes: int) -> None:
+    """Ends the script with a message if there is no room for a file of that size."""
+    folder = tempfile.gettempdir()
+    room = shutil.disk_usage(folder).free // 10 ** 6
+    if megabytes > room:
+        sys.exit(f"bench: {folder} has room for {room} MB, and not for {megabytes}; "
+                 "TMPDIR names another")
+
+
 def write_file(path: str, asked: page.Asked) -> tuple[int, int]:
     """Writes one text again and again, up to a size: how many cells it has, and their sum."""
     how = SETS["ledger with amounts and texts"]
@@ -216,6 +226,7 @@ def write_file(path: str, asked: page.Asked) -> tuple[int, int]:
 def measure_file(asked: page.Asked) -> None:
     """Prints what readers take of a file that is larger than their blocks, which they add up."""
     page.need("make", "cc", "c++")
+    need_room(asked.megabytes)
     rounds = max(asked.rounds // 10, 1)
     with tempfile.TemporaryDirectory() as folder:
         programs, jadvolni = columns.built(folder, "tables"), columns.binding(folder)

@@ -83,6 +83,7 @@ CASES = [
     Case("mkdir -p a/build; echo > a/build/libjadvolni.a;"
          " bench/tables.py --against a --megabytes 9; code=$?; rm -r a; exit $code",
          "--against and --megabytes go each alone"),
+    Case("bench/tables.py --megabytes 100000000000", "MB, and not for 100000000000; TMPDIR names"),
     Case("make run RT=nowhere", "there is no `nowhere` on the PATH"),
     Case("make lib RT=nowhere", "there is no `nowhere` on the PATH"),
     Case("make test RT=nowhere", "there is no `nowhere` on the PATH"),

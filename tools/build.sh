@@ -38,6 +38,7 @@ build() { # CRATE NUMBER
     (cd "crates/$1" && "$rt" $command < /dev/null) > "$log" 2>&1 || {
         tail -n 40 "$log"
         echo "$where: not built; $log has all that was said"
+        echo "\`$rt version\` says: $("$rt" version 2>&1 || :); README.md says which logic it has to be"
         return 1
     }
     echo "$where: done in $(($(date +%s) - start)) s"

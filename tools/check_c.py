@@ -101,7 +101,8 @@ def aligned(place: Place) -> str:
     folder, script = place.path("aligned"), source("packaging", "align.sh")
     os.makedirs(folder)
     shutil.copy(place.library("libjadvolni.a"), os.path.join(folder, "-from.a"))
-    for ending in ("exit 0", "exit 1", 'for to; do :; done; echo > "$to"'):
+    endings = "exit 0", "exit 1", 'for to; do :; done; echo > "$to"'
+    for ending in endings:
         with open(os.path.join(folder, "objcopy"), "w", encoding="ascii") as file:
             file.write(f"#!/bin/sh\n{ending}\n")
         os.chmod(file.name, 0o755)
@@ -111,7 +112,7 @@ def aligned(place: Place) -> str:
     run([script, "-from.a", "-from.a"], cwd=folder)
     if sorted(os.listdir(folder)) != ["-from.a", "-to.a", "objcopy"]:
         raise Failed(f"left: {os.listdir(folder)}")
-    return "4 copies"
+    return f"{len(endings)} copies"
 
 
 def size_in_readme(library: str) -> str:

@@ -41,11 +41,15 @@ function sizeOf(read) {
 
 /** How many rows there is memory for. Arrays are aligned, so some bytes between them stay unused. */
 function rowsOf(reads, missing, bad) {
-  const ofTable = 8 * (WORDS + 3) * reads.length + missing.length + 8;
-  const before = columnsPlace + ofTable + 4 * WORDS_OF_BAD_ROW * bad;
+  const ofColumns = 8 * (WORDS + 3) * reads.length;
+  const before = columnsPlace + ofColumns + missing.length + 8 + 4 * WORDS_OF_BAD_ROW * bad;
   const size = reads.reduce((sum, read) => sum + sizeOf(read), 0);
   const rows = Math.min(PIECE, Math.floor((memory.buffer.byteLength - before) / size));
-  if (rows < 1) throw new RangeError(`${reads.length} columns are more than there is memory for`);
+  if (rows < 1) {
+    const isLong = missing.length > ofColumns;
+    const subject = isLong ? `missing, of ${missing.length} bytes, is` : `${reads.length} columns are`;
+    throw new RangeError(`${subject} more than there is memory for`);
+  }
   return rows;
 }
 

@@ -87,7 +87,10 @@ test("headers that are hostile", () => {
   assert.deepEqual(names(`${"\n".repeat(50_000)}a\n`, { skips_empty_rows: true }), ["a"]);
   assert.deepEqual(names("\n\nab", { skips_empty_rows: true, widths: [0, 2] }), ["", "ab"]);
   assert.equal(names(",".repeat(3_000_000)), "3000001 columns are more than there is memory for");
-  assert.equal(names("a\n", { missing: "x".repeat(34_000_000) }), "the table is more than there is memory for");
+  const long = { missing: "x".repeat(34_000_000) };
+  assert.equal(names("a\n", long), "the table is more than there is memory for");
+  assert.throws(() => parseTable("a\n", [{ type: "u8", may_miss: true }], long),
+    { message: "missing, of 34000000 bytes, is more than there is memory for" });
   const widths = [Number.MAX_SAFE_INTEGER];
   assert.equal(names("a\n", { widths }), "line 1: too few cells, none for column 1; the row has 1 of the "
     + `${widths[0]} bytes of its widths: pad it if its last blanks were trimmed`);
