@@ -86,6 +86,7 @@ docs: ## writes what pages and lists have from the source: docs/CONTRACTS.md, do
 	@$(if $(NODE),node docs/try/src/join.mjs,echo "skipped: there is no node from 20 on to write docs/try/index.html")
 
 check-docs: ## checks these, and every link, file name and word count; a part of the gate
+	@$(if $(NODE),node docs/try/src/join.mjs --check,echo "skipped: there is no node from 20 on to check docs/try/index.html")
 	@python3 tools/test_documents.py
 	@python3 tools/documents.py --check
 
