@@ -379,7 +379,8 @@ template <class T>
     return jadvolni_line_column(text.data(), text.size(), place);
 }
 
-// The number of a literal, and its suffix, which points into the text.
+// The number of a literal, and its suffix, which points into the text. jadvolni_u128_number(value) is an integer of the
+// compiler's own 128 bits.
 struct literal_parts {
     jadvolni_uint128 value;
     std::string_view suffix;

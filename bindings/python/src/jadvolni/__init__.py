@@ -20,6 +20,8 @@
     ...
     jadvolni.ParseError: overflow at byte 19: b'18446744073709551616'
 
+The types are u8, u16, u32, u64, u128, usize, i8, i16, i32, i64, i128 and isize.
+
 The parsers are those of the library `jadvolni`, whose results are proved. This module passes texts
 to them and returns their numbers; it is tested, and not proved.
 """

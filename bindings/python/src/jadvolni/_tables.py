@@ -317,8 +317,9 @@ def iter_table(
     Everything else is as in parse_table. ParseError is raised after the rows before it have been
     yielded, and counts from where reading began, a header's lines and bytes included. ValueError is
     raised if a block ends more than `size` bytes into a row, so no more than two blocks are held,
-    or two for each thread. If bad rows are skipped, each table's `bad_rows` counts those of its
-    part of the file, and a table may have no row.
+    or two for each thread: a quote that is never closed raises it even if bad rows are skipped. If
+    they are skipped, each table's `bad_rows` counts those of its part of the file, and a table may
+    have no row.
     """
     rows, size = _one_or_more("rows", rows), _one_or_more("size", size)
     threads = thread_count(threads)
